@@ -1,0 +1,4 @@
+pub mod Refusals
+pub mod Canonical
+pub mod Manual
+pub mod Original

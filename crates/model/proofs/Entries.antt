@@ -1,0 +1,171 @@
+-- Laws of lists of entries: search, write, append, and what is kept. Assumes nothing.
+use mathlib.Core.Path.{_≡_, refl, sym, ap, subst, _∙_}
+use mathlib.Core.Bool.{Bool, true, false, cond, _||_, true≢false}
+use mathlib.Core.List.{List, [], _∷_, _++_}
+use mathlib.Core.Logic.{_⊎_, inl, inr}
+use Prim.Native.Nat.{ℕ, zero, suc, _+_, _≤_, _<_}
+use native.Mathlib.Nat.{le-of-suc-le-suc, not-suc-le-zero}
+use native.Mathlib.Omega.{arith}
+use lib.ListN.{length, getD, set}
+use Rattle.value.specs.declared.Words.{Words}
+use Rattle.value.specs.Same.{same, nil}
+use Rattle.value.proofs.Cases.{caseb, clash, or-right}
+use Rattle.value.proofs.Same.{same-eq, same-refl, ne-same, same-sym}
+use Rattle.model.specs.Entries.{Entry, entry, keysOf, member, distinct, has, find, put, keep, Each}
+use Rattle.model.specs.Growth.{tabulate}
+
+-- ---- a write keeps the keys
+pub put-keys : (l : List Entry) (k v : Words) → keysOf (put l k v) ≡ keysOf l
+put-keys [] k v = refl
+put-keys (s ∷ ss) k v = caseb (same (s .key) k) (λ e. rw e) (λ e. rw (e, put-keys ss k v))
+
+pub length-keys : (l : List Entry) → length (keysOf l) ≡ length l
+length-keys [] = refl
+length-keys (s ∷ ss) = ap suc (length-keys ss)
+
+pub length-put : (l : List Entry) (k v : Words) → length (put l k v) ≡ length l
+length-put l k v = sym (length-keys (put l k v)) ∙ ap length (put-keys l k v) ∙ length-keys l
+
+-- ---- lists joined
+pub keys-append : (l m : List Entry) → keysOf (l ++ m) ≡ keysOf l ++ keysOf m
+keys-append [] m = refl
+keys-append (s ∷ ss) m = rw (keys-append ss m)
+
+pub member-append : (l m : List Words) (k : Words) → member (l ++ m) k ≡ (member l k || member m k)
+member-append [] m k = refl
+member-append (x ∷ xs) m k = caseb (same x k) (λ e. rw e) (λ e. rw e (member-append xs m k))
+
+pub has-append : (l m : List Entry) (k : Words) → has (l ++ m) k ≡ (has l k || has m k)
+has-append l m k = rw (keys-append l m) (member-append (keysOf l) (keysOf m) k)
+
+pub find-append-has : (l m : List Entry) (k : Words) → has l k ≡ true → find (l ++ m) k ≡ find l k
+find-append-has [] m k h = absurd (true≢false (sym h))
+find-append-has (s ∷ ss) m k h = caseb (same (s .key) k) (λ e. rw e) (λ e. rw e (find-append-has ss m k (rw e at h)))
+
+pub find-append-not : (l m : List Entry) (k : Words) → has l k ≡ false → find (l ++ m) k ≡ find m k
+find-append-not [] m k h = refl
+find-append-not (s ∷ ss) m k h = caseb (same (s .key) k) (λ e. absurd (true≢false (rw e at h))) (λ e. rw e (find-append-not ss m k (rw e at h)))
+
+pub put-append-has : (l m : List Entry) (k v : Words) → has l k ≡ true → put (l ++ m) k v ≡ put l k v ++ m
+put-append-has [] m k v h = absurd (true≢false (sym h))
+put-append-has (s ∷ ss) m k v h =
+    caseb (same (s .key) k) (λ e. rw e)
+    (λ e. rw e (ap {B = List Entry} (λ r. s ∷ r) (put-append-has ss m k v (rw e at h))))
+
+pub put-append-not : (l m : List Entry) (k v : Words) → has l k ≡ false → put (l ++ m) k v ≡ l ++ put m k v
+put-append-not [] m k v h = refl
+put-append-not (s ∷ ss) m k v h =
+    caseb (same (s .key) k) (λ e. absurd (true≢false (rw e at h)))
+    (λ e. rw e (ap {B = List Entry} (λ r. s ∷ r) (put-append-not ss m k v (rw e at h))))
+
+-- ---- what a search finds
+pub find-absent : (l : List Entry) (k : Words) → has l k ≡ false → find l k ≡ nil
+find-absent [] k h = refl
+find-absent (s ∷ ss) k h = caseb (same (s .key) k) (λ e. absurd (true≢false (rw e at h))) (λ e. rw e (find-absent ss k (rw e at h)))
+
+pub find-put : (l : List Entry) (k v j : Words) → has l k ≡ true → find (put l k v) j ≡ cond (same k j) v (find l j)
+find-put [] k v j h = absurd (true≢false (sym h))
+find-put (s ∷ ss) k v j h =
+    caseb (same (s .key) k)
+    (λ e. let p : s .key ≡ k = same-eq (s .key) k e in rw (e, p) (caseb (same k j) (λ b. rw b) (λ b. rw b)))
+    (λ e. rw e (caseb (same (s .key) j)
+    (λ b. let d : same k j ≡ false = same-sym j k (subst (λ (x : Words). same x k ≡ false) (same-eq (s .key) j b) e) in rw (b, d))
+    (λ b. rw b (find-put ss k v j (rw e at h)))))
+
+pub find-snoc : (l : List Entry) (k v j : Words) → has l k ≡ false → find (l ++ (entry k v ∷ [])) j ≡ cond (same k j) v (find l j)
+find-snoc l k v j h =
+    caseb (has l j)
+    (λ b. let d : same k j ≡ false = ne-same k j (λ p. clash b (subst (λ (x : Words). has l x ≡ false) p h)) in rw d (find-append-has l (entry k v ∷ []) j b))
+    (λ b. rw (find-append-not l (entry k v ∷ []) j b, find-absent l j b))
+
+pub has-snoc : (l : List Entry) (k v j : Words) → has (l ++ (entry k v ∷ [])) j ≡ true → (has l j ≡ true) ⊎ (k ≡ j)
+has-snoc l k v j h =
+    let g : (has l j || (same k j || false)) ≡ true = rw (has-append l (entry k v ∷ []) j) at h in
+    caseb (has l j) (λ e. inl e) (λ e. caseb (same k j) (λ b. inr (same-eq k j b)) (λ b. absurd (true≢false (sym (rw (e, b) at g)))))
+
+-- ---- what is kept
+pub has-keep : (p : Entry → Bool) (l : List Entry) (k : Words) → has l k ≡ false → has (keep p l) k ≡ false
+has-keep p [] k h = refl
+has-keep p (s ∷ ss) k h =
+    caseb (same (s .key) k) (λ e. absurd (true≢false (rw e at h)))
+    (λ e. caseb (p s) (λ b. rw (b, e) (has-keep p ss k (rw e at h))) (λ b. rw b (has-keep p ss k (rw e at h))))
+
+-- a key that is dropped only where its value is Nil keeps its value
+pub find-keep : (p : Entry → Bool) (l : List Entry) (k : Words) → distinct (keysOf l) → ((s : Entry) → s .key ≡ k → p s ≡ false → s .value ≡ nil) → find (keep p l) k ≡ find l k
+find-keep p [] k d h = refl
+find-keep p (s ∷ ss) k d h =
+    caseb (p s)
+    (λ b. rw b (ap (λ (x : Words). cond (same (s .key) k) (s .value) x) (find-keep p ss k (d .1) h)))
+    (λ b. caseb (same (s .key) k)
+    (λ e. let q : s .key ≡ k = same-eq (s .key) k e in
+    let n : has ss k ≡ false = subst (λ (x : Words). has ss x ≡ false) q (d .0) in
+    rw (b, e) (find-absent (keep p ss) k (has-keep p ss k n) ∙ sym (h s q b)))
+    (λ e. rw (b, e) (find-keep p ss k (d .1) h)))
+
+-- a key that was kept stands in an entry that passes the test
+pub kept-entry : (p : Entry → Bool) (l : List Entry) (k : Words) → has (keep p l) k ≡ true → (s : Entry) × (s .key ≡ k) × (p s ≡ true) × (has l k ≡ true)
+kept-entry p [] k h = absurd (true≢false (sym h))
+kept-entry p (s ∷ ss) k h =
+    caseb (p s)
+    (λ b. caseb (same (s .key) k)
+    (λ e. (s, same-eq (s .key) k e, b, rw e))
+    (λ e. let r : (x : Entry) × (x .key ≡ k) × (p x ≡ true) × (has ss k ≡ true) = kept-entry p ss k (rw (b, e) at h) in (r .0, r .1, r .2, rw e (r .3))))
+    (λ b. let r : (x : Entry) × (x .key ≡ k) × (p x ≡ true) × (has ss k ≡ true) = kept-entry p ss k (rw b at h) in (r .0, r .1, r .2, or-right (same (s .key) k) (has ss k) (r .3)))
+
+pub length-keep : (p : Entry → Bool) (l : List Entry) → length (keep p l) ≤ length l
+length-keep p [] = omega arith
+length-keep p (s ∷ ss) = let h : length (keep p ss) ≤ length ss = length-keep p ss in caseb (p s) (λ e. rw e (omega arith)) (λ e. rw e (omega arith))
+
+-- ---- distinct keys
+pub distinct-snoc : (l : List Words) (k : Words) → distinct l → member l k ≡ false → distinct (l ++ (k ∷ []))
+distinct-snoc [] k d h = (refl, tt)
+distinct-snoc (x ∷ xs) k d h =
+    caseb (same x k)
+    (λ e. absurd (true≢false (rw e at h)))
+    (λ e. (member-append xs (k ∷ []) x ∙ rw (d .0, same-sym x k e), distinct-snoc xs k (d .1) (rw e at h)))
+
+pub distinct-append : (l m : List Words) → distinct l → distinct m → ((k : Words) → member l k ≡ true → member m k ≡ false) → distinct (l ++ m)
+distinct-append [] m d e h = e
+distinct-append (x ∷ xs) m d e h = (
+  member-append xs m x ∙ rw (d .0) (h x (rw (same-refl x))),
+  distinct-append xs m (d .1) e (λ k g. h k (or-right (same x k) (member xs k) g)),
+)
+
+pub distinct-keep : (p : Entry → Bool) (l : List Entry) → distinct (keysOf l) → distinct (keysOf (keep p l))
+distinct-keep p [] d = tt
+distinct-keep p (s ∷ ss) d =
+    caseb (p s)
+    (λ e. rw e (has-keep p ss (s .key) (d .0), distinct-keep p ss (d .1)))
+    (λ e. rw e (distinct-keep p ss (d .1)))
+
+-- ---- what holds of each
+pub each-append : {X : Type 0} (P : X → Type 0) (l m : List X) → Each P l → Each P m → Each P (l ++ m)
+each-append P [] m a b = b
+each-append P (x ∷ xs) m a b = (a .0, each-append P xs m (a .1) b)
+
+pub each-keep : (P : Entry → Type 0) (p : Entry → Bool) (l : List Entry) → Each P l → Each P (keep p l)
+each-keep P p [] a = tt
+each-keep P p (s ∷ ss) a = caseb (p s) (λ e. rw e (a .0, each-keep P p ss (a .1))) (λ e. rw e (each-keep P p ss (a .1)))
+
+pub each-put : (P : Entry → Type 0) (l : List Entry) (k v : Words) → ((s : Entry) → P s → P (entry (s .key) v)) → Each P l → Each P (put l k v)
+each-put P [] k v f a = tt
+each-put P (s ∷ ss) k v f a = caseb (same (s .key) k) (λ e. rw e (f s (a .0), a .1)) (λ e. rw e (a .0, each-put P ss k v f (a .1)))
+
+pub each-set : {X : Type 0} (P : X → Type 0) (l : List X) (i : ℕ) (x : X) → P x → Each P l → Each P (set l i x)
+each-set P [] i x h a = a
+each-set P (y ∷ ys) zero x h a = (h, a .1)
+each-set P (y ∷ ys) (suc i) x h a = (a .0, each-set P ys i x h (a .1))
+
+pub each-tabulate : {X : Type 0} (P : X → Type 0) (n : ℕ) (f : ℕ → X) (i : ℕ) → ((j : ℕ) → P (f j)) → Each P (tabulate n f i)
+each-tabulate P zero f i h = tt
+each-tabulate P (suc n) f i h = (h i, each-tabulate P n f (suc i) h)
+
+-- ---- an array made anew
+pub length-tabulate : {X : Type 0} (n : ℕ) (f : ℕ → X) (i : ℕ) → length (tabulate n f i) ≡ n
+length-tabulate zero f i = refl
+length-tabulate (suc n) f i = ap suc (length-tabulate n f (suc i))
+
+pub getD-tabulate : {X : Type 0} (n : ℕ) (f : ℕ → X) (d : X) (i j : ℕ) → j < n → getD (tabulate n f i) j d ≡ f (i + j)
+getD-tabulate zero f d i j h = absurd (not-suc-le-zero h)
+getD-tabulate (suc n) f d i zero h = ap f (omega arith)
+getD-tabulate (suc n) f d i (suc j) h = getD-tabulate n f d (suc i) j (le-of-suc-le-suc h) ∙ ap f (omega arith)

@@ -1,0 +1,212 @@
+-- A well-formed table stays well-formed: a fresh one is, and every set and reserve keeps it (01, 'The store'). Assumes nothing.
+use mathlib.Core.Path.{_≡_, refl, sym, subst}
+use mathlib.Core.Bool.{true, false, not, true≢false}
+use mathlib.Core.List.{List, [], _∷_}
+use mathlib.Core.Logic.{_⊎_, inl, inr}
+use Prim.Native.Nat.{ℕ, zero, suc, _+_, _-_, _*_, _^_, _≤_, _<_, max}
+use native.Mathlib.Omega.{arith}
+use lib.Dec.{leb, ltb}
+use lib.ListN.{length, getD, length-set, length-append}
+use borrow.Author.Tests.{leb-true, leb-false, ltb-true, ltb-false, not-true}
+use Rattle.value.specs.declared.Words.{Words}
+use Rattle.value.specs.Encoding.{decodes}
+use Rattle.value.specs.Same.{same, nil, isNil}
+use Rattle.value.proofs.Cases.{caseb, and-right}
+use Rattle.key.specs.declared.CanonicalKey.{CanonicalKey}
+use Rattle.key.specs.declared.CanonicalKey.the-variants.{Key, No}
+use Rattle.key.specs.Canonical.{integer, canonicalKey, onKey}
+use Rattle.key.proofs.Own.{canonical-own, canonical-decodes}
+use Rattle.model.specs.Entries.{Entry, entry, keysOf, has, find, keep, live, Each}
+use Rattle.model.specs.Table.{Room, Table, fresh, within, indexOf, lookup}
+use Rattle.model.specs.Growth.{candidates, optimalSize, stays, rehashed, grownAllowance}
+use Rattle.model.specs.Calls.{refuse, writeArray, writeEntry, append, placeIn, grow, setKey, setOf, reserveOf}
+use Rattle.model.specs.WellFormed.{Decodes, ZeroOrPower, WellFormed}
+use Rattle.model.proofs.Entries.{put-keys, length-put, keys-append, has-snoc, kept-entry, length-keep, distinct-snoc, distinct-keep, each-append, each-keep, each-put, each-set, each-tabulate}
+use Rattle.model.proofs.Map.{rehashed-length, best-power, size-le, absent-still}
+
+abbrev DecodesBoth : Entry → Type 0
+DecodesBoth s = Decodes (s .key) × Decodes (s .value)
+
+nil-decodes : Decodes nil
+unfolding decodes
+nil-decodes = refl
+
+pub fresh-kept : (room : Room) → room .arrayRoom ≤ 2 ^ 62 → WellFormed room fresh
+fresh-kept room h =
+    record {
+      inRange = h;
+      arrayFits = omega arith;
+      entriesFit = omega arith;
+      allowanceFits = omega arith;
+      power = inl refl;
+      arrayDecodes = tt;
+      entriesDecode = tt;
+      canonical = λ k hk. absurd (true≢false (sym hk));
+      outside = λ k hk. absurd (true≢false (sym hk));
+      apart = tt;
+    }
+
+module _ (room : Room) (t : Table) (k v : Words) (w : WellFormed room t) (dv : Decodes v) where
+  writeArray-kept : WellFormed room (writeArray t k v)
+  writeArray-kept =
+      let len : length (writeArray t k v .array) ≡ length (t .array) = length-set (t .array) (indexOf k) v in
+      record {
+        inRange = w .inRange;
+        arrayFits = rw len (w .arrayFits);
+        entriesFit = w .entriesFit;
+        allowanceFits = w .allowanceFits;
+        power = rw len (w .power);
+        arrayDecodes = each-set Decodes (t .array) (indexOf k) v dv (w .arrayDecodes);
+        entriesDecode = w .entriesDecode;
+        canonical = w .canonical;
+        outside = rw len (w .outside);
+        apart = w .apart;
+      }
+
+  writeEntry-kept : WellFormed room (writeEntry t k v)
+  writeEntry-kept =
+      record {
+        inRange = w .inRange;
+        arrayFits = w .arrayFits;
+        entriesFit = rw (length-put (t .entries) k v) (w .entriesFit);
+        allowanceFits = w .allowanceFits;
+        power = w .power;
+        arrayDecodes = w .arrayDecodes;
+        entriesDecode = each-put DecodesBoth (t .entries) k v (λ s d. (d .0, dv)) (w .entriesDecode);
+        canonical = rw (put-keys (t .entries) k v) (w .canonical);
+        outside = rw (put-keys (t .entries) k v) (w .outside);
+        apart = rw (put-keys (t .entries) k v) (w .apart);
+      }
+
+  append-kept : (M : ℕ) → Decodes k → canonicalKey k ≡ Key k → within (length (t .array)) k ≡ false → has (t .entries) k ≡ false → length (t .entries) < M → M ≤ room .entryRoom → WellFormed room (append t k v M)
+  append-kept M dk c b n h g =
+      record {
+        inRange = w .inRange;
+        arrayFits = w .arrayFits;
+        entriesFit = omega (arith, length-append (t .entries) (entry k v ∷ []));
+        allowanceFits = g;
+        power = w .power;
+        arrayDecodes = w .arrayDecodes;
+        entriesDecode = each-append DecodesBoth (t .entries) (entry k v ∷ []) (w .entriesDecode) ((dk, dv), tt);
+        canonical = λ j hj. one (λ x. canonicalKey x ≡ Key x) (w .canonical) c j (has-snoc (t .entries) k v j hj);
+        outside = λ j hj. one (λ x. within (length (t .array)) x ≡ false) (w .outside) b j (has-snoc (t .entries) k v j hj);
+        apart = rw (keys-append (t .entries) (entry k v ∷ [])) (distinct-snoc (keysOf (t .entries)) k (w .apart) n);
+      }
+    where
+      one : (P : Words → Type 0) → ((j : Words) → has (t .entries) j ≡ true → P j) → P k → (j : Words) → (has (t .entries) j ≡ true) ⊎ (k ≡ j) → P j
+      one P f p j (inl x) = f j x
+      one P f p j (inr q) = subst P q p
+
+-- ---- growth
+max-power : (m n : ℕ) → ZeroOrPower m → ZeroOrPower n → ZeroOrPower (max m n)
+max-power m n p q =
+    caseb (leb m n)
+    (λ e. let h : m ≤ n = leb-true m n e in let r : max m n ≡ n = omega arith in rw r q)
+    (λ e. let h : n < m = leb-false m n e in let r : max m n ≡ m = omega arith in rw r p)
+
+getD-decodes : (l : List Words) (i : ℕ) → Each Decodes l → Decodes (getD l i nil)
+getD-decodes [] i a = nil-decodes
+getD-decodes (x ∷ xs) zero a = a .0
+getD-decodes (x ∷ xs) (suc i) a = getD-decodes xs i (a .1)
+
+find-decodes : (l : List Entry) (k : Words) → Each DecodesBoth l → Decodes (find l k)
+find-decodes [] k a = nil-decodes
+find-decodes (s ∷ ss) k a = caseb (same (s .key) k) (λ e. rw e (a .0 .1)) (λ e. rw e (find-decodes ss k (a .1)))
+
+pub lookup-decodes : (room : Room) (t : Table) (k : Words) → WellFormed room t → Decodes (lookup t k)
+unfolding lookup
+lookup-decodes room t k w =
+    caseb (within (length (t .array)) k)
+    (λ e. rw e (getD-decodes (t .array) (indexOf k) (w .arrayDecodes)))
+    (λ e. rw e (find-decodes (t .entries) k (w .entriesDecode)))
+
+rehashed-kept : (room : Room) (t : Table) (S : ℕ) → S ≤ room .arrayRoom → ZeroOrPower S → WellFormed room t → WellFormed room (rehashed t S)
+unfolding rehashed
+rehashed-kept room t S h q w =
+    record {
+      inRange = w .inRange;
+      arrayFits = omega (arith, len, w .arrayFits);
+      entriesFit = omega (arith, length-keep (stays A) (t .entries), w .entriesFit);
+      allowanceFits = w .allowanceFits;
+      power = rw len (max-power (length (t .array)) S (w .power) q);
+      arrayDecodes = each-tabulate Decodes A (λ i. lookup t (integer (suc i))) 0 (λ i. lookup-decodes room t (integer (suc i)) w);
+      entriesDecode = each-keep DecodesBoth (stays A) (t .entries) (w .entriesDecode);
+      canonical = λ k hk. w .canonical k (kept-entry (stays A) (t .entries) k hk .3);
+      outside = λ k hk. rw len (left k (kept-entry (stays A) (t .entries) k hk));
+      apart = distinct-keep (stays A) (t .entries) (w .apart);
+    }
+  where
+    A : ℕ
+    A = max (length (t .array)) S
+
+    len : length ((rehashed t S) .array) ≡ A
+    len = rehashed-length t S
+
+    left : (k : Words) → (x : Entry) × (x .key ≡ k) × (stays A x ≡ true) × (has (t .entries) k ≡ true) → within A k ≡ false
+    left k r =
+        unfold stays in
+        subst (λ (y : Words). within A y ≡ false) (r .1) (not-true (within A (r .0 .key)) (and-right (live (r .0)) (not (within A (r .0 .key))) (r .2)))
+
+-- an accepted growth leaves room for the pair that is appended
+pub allowance-enough : (e L M : ℕ) → L ≤ M → M ≤ e → L < e → (L < grownAllowance e L M) × (grownAllowance e L M ≤ e)
+allowance-enough e L M h g f =
+    caseb (leb M (2 * L))
+    (λ b. let x : M ≤ 2 * L = leb-true M (2 * L) b in rw b (omega arith, omega arith))
+    (λ b. let x : 2 * L < M = leb-false M (2 * L) b in rw b (omega arith, omega arith))
+
+placeIn-kept : (room : Room) (t r : Table) (k v : Words) → WellFormed room t → WellFormed room r → Decodes k → Decodes v → canonicalKey k ≡ Key k → has (r .entries) k ≡ false → WellFormed room ((placeIn (room .entryRoom) t r k v) .table)
+unfolding placeIn
+placeIn-kept room t r k v wt wr dk dv c n =
+    let e : ℕ = room .entryRoom in
+    let L : ℕ = length (r .entries) in
+    caseb (within (length (r .array)) k)
+    (λ b. rw b (writeArray-kept room r k v wr dv))
+    (λ b. rw b (caseb (leb e L)
+    (λ d. rw d wt)
+    (λ d. let en : (L < grownAllowance e L (r .allowance)) × (grownAllowance e L (r .allowance) ≤ e) = allowance-enough e L (r .allowance) (wr .entriesFit) (wr .allowanceFits) (leb-false e L d) in
+    rw d (append-kept room r k v wr dv (grownAllowance e L (r .allowance)) dk c b n (en .0) (en .1)))))
+
+-- ---- the calls
+pub setKey-kept : (room : Room) (t : Table) (k v : Words) → WellFormed room t → Decodes k → Decodes v → canonicalKey k ≡ Key k → WellFormed room ((setKey room t k v) .table)
+unfolding setKey grow optimalSize
+setKey-kept room t k v w dk dv c =
+    caseb (within (length (t .array)) k)
+    (λ b. rw b (writeArray-kept room t k v w dv))
+    (λ b. rw b (caseb (has (t .entries) k)
+    (λ n. rw n (writeEntry-kept room t k v w dv))
+    (λ n. rw n (caseb (isNil v)
+    (λ d. rw d w)
+    (λ d. rw d (caseb (ltb (length (t .entries)) (t .allowance))
+    (λ f. rw f (append-kept room t k v w dv (t .allowance) dk c b n (ltb-true (length (t .entries)) (t .allowance) f) (w .allowanceFits)))
+    (λ f. let S : ℕ = optimalSize room t k in
+    rw f (placeIn-kept room t (rehashed t S) k v w
+    (rehashed-kept room t S (size-le room t k) (best-power (candidates t k) (room .arrayRoom) (room .classes)) w) dk dv c (absent-still t S k n)))))))))
+
+pub setOf-kept : (room : Room) (t : Table) (key v : Words) → WellFormed room t → Decodes key → Decodes v → WellFormed room ((setOf room t key v) .table)
+unfolding setOf
+setOf-kept room t key v w dk dv = go (canonicalKey key) refl
+  where
+    go : (c : CanonicalKey) → canonicalKey key ≡ c → WellFormed room ((onKey c (λ n. refuse n t) (λ k. setKey room t k v)) .table)
+    go (Key k) e = setKey-kept room t k v w (canonical-decodes key k dk e) dv (canonical-own key k e)
+    go (No n) e = w
+
+pub reserve-kept : (room : Room) (t : Table) (n : ℕ) → WellFormed room t → WellFormed room ((reserveOf room t n) .table)
+unfolding reserveOf
+reserve-kept room t n w =
+    let L : ℕ = length (keep live (t .entries)) in
+    caseb (leb n (t .allowance - length (t .entries)))
+    (λ b. rw b w)
+    (λ b. rw b (caseb (ltb (room .entryRoom) (L + n))
+    (λ d. rw d w)
+    (λ d. rw d (record {
+      inRange = w .inRange;
+      arrayFits = w .arrayFits;
+      entriesFit = omega arith;
+      allowanceFits = omega (arith, ltb-false (room .entryRoom) (L + n) d, w .allowanceFits);
+      power = w .power;
+      arrayDecodes = w .arrayDecodes;
+      entriesDecode = each-keep DecodesBoth live (t .entries) (w .entriesDecode);
+      canonical = λ k hk. w .canonical k (kept-entry live (t .entries) k hk .3);
+      outside = λ k hk. w .outside k (kept-entry live (t .entries) k hk .3);
+      apart = distinct-keep live (t .entries) (w .apart);
+    }))))

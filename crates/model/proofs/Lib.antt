@@ -1,0 +1,10 @@
+-- The laws of the table, leaves first, and its theorems.
+pub mod Entries
+pub mod Array
+pub mod Map
+pub mod Kept
+pub mod Refusals
+pub mod Next
+pub mod Border
+pub mod Classes
+pub mod Rows

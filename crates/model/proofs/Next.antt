@@ -1,0 +1,98 @@
+-- `next` against the manual (§6.1): from Nil, and then from each key handed out, a walk that nothing disturbs lists every key with a value
+-- exactly once, with that value, and then ends. Assumes nothing.
+use mathlib.Core.Path.{_≡_, refl, sym, ap, subst, _∙_}
+use mathlib.Core.Bool.{true, false, not}
+use mathlib.Core.List.{List, [], _∷_, _++_, append-assoc}
+use mathlib.Core.Logic.{_⊎_, inl, inr}
+use Prim.Native.Nat.{suc}
+use lib.ListN.{length}
+use Rattle.value.specs.declared.Words.{Words}
+use Rattle.value.specs.Same.{same, nil, isNil}
+use Rattle.value.proofs.Cases.{caseb, clash, or-cases, or-right}
+use Rattle.value.proofs.Same.{same-eq, same-refl, ne-same, not-live}
+use Rattle.key.specs.declared.CanonicalKey.the-variants.{Key}
+use Rattle.key.specs.Canonical.{canonicalKey}
+use Rattle.key.proofs.Own.{canonical-integer}
+use Rattle.model.specs.Entries.{Entry, keysOf, distinct, has, find, keep, live, NextValue, first, from}
+use Rattle.model.specs.Table.{Room, Table, within, pairs, lookup, getOf, nextOf}
+use Rattle.model.specs.WellFormed.{WellFormed}
+use Rattle.model.specs.Manual.{Lists, end, more, PairsOf}
+use Rattle.model.proofs.Entries.{has-append, has-keep, find-keep, distinct-keep}
+use Rattle.model.proofs.Array.{Inside, inside, has-pairs, find-pairs, distinct-pairs}
+use Rattle.model.proofs.Map.{numbered}
+
+-- ---- the calls at Nil and at a canonical key
+pub next-nil : (t : Table) → nextOf t nil ≡ first (pairs t)
+unfolding nextOf canonicalKey
+next-nil t = refl
+
+pub next-key : (t : Table) (k : Words) → canonicalKey k ≡ Key k → nextOf t k ≡ from (pairs t) k
+unfolding nextOf
+next-key t k c = rw c
+
+pub get-key : (t : Table) (key k : Words) → canonicalKey key ≡ Key k → getOf t key ≡ lookup t k
+unfolding getOf
+get-key t key k c = rw c
+
+-- ---- the pairs of a well-formed table
+pub pairs-apart : {room : Room} {t : Table} → WellFormed room t → distinct (keysOf (pairs t))
+pairs-apart {t = t} w = distinct-pairs t (numbered w) (w .apart) (w .outside)
+
+pub pair-canonical : {room : Room} {t : Table} (k : Words) → WellFormed room t → has (pairs t) k ≡ true → canonicalKey k ≡ Key k
+pair-canonical {t = t} k w h = go (or-cases (within (length (t .array)) k) (has (t .entries) k) (sym (has-pairs t k (numbered w)) ∙ h))
+  where
+    go : (within (length (t .array)) k ≡ true) ⊎ (has (t .entries) k ≡ true) → canonicalKey k ≡ Key k
+    go (inl e) = let r : Inside (length (t .array)) k = inside (length (t .array)) k e in rw (r .is) (canonical-integer (suc (r .i)))
+    go (inr e) = w .canonical k e
+
+-- ---- a list walked from its start
+pub has-middle : (pre : List Entry) (s : Entry) (post : List Entry) → has (pre ++ (s ∷ post)) (s .key) ≡ true
+has-middle pre s post = has-append pre (s ∷ post) (s .key) ∙ or-right (has pre (s .key)) (has (s ∷ post) (s .key)) (rw (same-refl (s .key)))
+
+-- from a key that stands in the list, what comes after it
+pub from-middle : (pre : List Entry) (s : Entry) (post : List Entry) → distinct (keysOf (pre ++ (s ∷ post))) → from (pre ++ (s ∷ post)) (s .key) ≡ first post
+from-middle [] s post d = rw (same-refl (s .key))
+from-middle (x ∷ pre) s post d =
+    let n : same (x .key) (s .key) ≡ false = ne-same (x .key) (s .key) (λ p. clash (subst (λ (y : Words). has (pre ++ (s ∷ post)) y ≡ true) (sym p) (has-middle pre s post)) (d .0))
+    in rw n (from-middle pre s post (d .1))
+
+-- a `next` that goes through a list of pairs lists those with a value: at the start its first, and at each key of the list the first after it
+pub lists : (next : Words → NextValue) (l : List Entry) → ((pre : List Entry) (s : Entry) (post : List Entry) → pre ++ (s ∷ post) ≡ l → next (s .key) ≡ first post)
+    → (post pre : List Entry) → pre ++ post ≡ l → (key : Words) → next key ≡ first post → Lists next key (keep live post)
+lists next l after [] pre q key h = end h
+lists next l after (s ∷ post) pre q key h =
+    let q′ : (pre ++ (s ∷ [])) ++ post ≡ l = append-assoc pre (s ∷ []) post ∙ q in
+    caseb (isNil (s .value))
+    (λ b. rw b (lists next l after post (pre ++ (s ∷ [])) q′ key (rw b at h)))
+    (λ b. rw b (more (s .key) (s .value) (rw b at h) (lists next l after post (pre ++ (s ∷ [])) q′ (s .key) (after pre s post q))))
+
+next-after : {room : Room} (t : Table) → WellFormed room t → (pre : List Entry) (s : Entry) (post : List Entry) → pre ++ (s ∷ post) ≡ pairs t → nextOf t (s .key) ≡ first post
+next-after t w pre s post q =
+    next-key t (s .key) (pair-canonical (s .key) w (subst (λ (l : List Entry). has l (s .key) ≡ true) q (has-middle pre s post)))
+    ∙ subst (λ (l : List Entry). from l (s .key) ≡ first post) q (from-middle pre s post (subst (λ (l : List Entry). distinct (keysOf l)) (sym q) (pairs-apart w)))
+
+-- ---- the pairs with a value are the map's
+has-live : (l : List Entry) (k : Words) → distinct (keysOf l) → has (keep live l) k ≡ not (isNil (find l k))
+has-live [] k d = rw (same-refl nil)
+has-live (s ∷ ss) k d =
+    caseb (isNil (s .value))
+    (λ b. caseb (same (s .key) k)
+    (λ e. let n : has ss k ≡ false = subst (λ (x : Words). has ss x ≡ false) (same-eq (s .key) k e) (d .0) in rw (b, e, b) (has-keep live ss k n))
+    (λ e. rw (b, e) (has-live ss k (d .1))))
+    (λ b. caseb (same (s .key) k)
+    (λ e. rw (b, e, b))
+    (λ e. rw (b, e) (has-live ss k (d .1))))
+
+pub live-pairs : (value : Words → Words) (l : List Entry) → distinct (keysOf l) → ((k : Words) → find l k ≡ value k) → PairsOf value (keep live l)
+live-pairs value l d h =
+    record {
+      once = distinct-keep live l d;
+      each = λ k. has-live l k d ∙ ap (λ (v : Words). not (isNil v)) (h k);
+      shown = λ k. find-keep live l k d (λ s p b. not-live (s .value) b) ∙ h k;
+    }
+
+pub next-lists : {room : Room} (t : Table) → WellFormed room t → Lists (nextOf t) nil (keep live (pairs t)) × PairsOf (lookup t) (keep live (pairs t))
+next-lists t w = (
+  lists (nextOf t) (pairs t) (next-after t w) (pairs t) [] refl nil (next-nil t),
+  live-pairs (lookup t) (pairs t) (pairs-apart w) (λ k. find-pairs t k (numbered w)),
+)

@@ -1,0 +1,41 @@
+-- Tests taken apart: a Bool is true or false, and a conjunction or disjunction is its parts. Assumes nothing.
+use mathlib.Core.Path.{_≡_, refl, sym, subst, _∙_}
+use mathlib.Core.Bool.{Bool, true, false, _&&_, _||_, true≢false}
+use mathlib.Core.Logic.{_⊎_, inl, inr}
+use lib.Dec.{T}
+
+pub caseb {ℓ} : {P : Type ℓ} (b : Bool) → (b ≡ true → P) → (b ≡ false → P) → P
+caseb true f g = f refl
+caseb false f g = g refl
+
+pub clash {ℓ} : {P : Type ℓ} {b : Bool} → b ≡ true → b ≡ false → P
+clash p q = absurd (true≢false (sym p ∙ q))
+
+pub T→true : (b : Bool) → T b → b ≡ true
+T→true true t = refl
+T→true false t = absurd t
+
+pub true→T : (b : Bool) → b ≡ true → T b
+true→T b e = subst T (sym e) tt
+
+pub and-left : (a b : Bool) → (a && b) ≡ true → a ≡ true
+and-left true b t = refl
+and-left false b t = t
+
+pub and-right : (a b : Bool) → (a && b) ≡ true → b ≡ true
+and-right true b t = t
+and-right false b t = absurd (true≢false (sym t))
+
+pub or-cases : (a b : Bool) → (a || b) ≡ true → (a ≡ true) ⊎ (b ≡ true)
+or-cases true b e = inl refl
+or-cases false b e = inr e
+
+pub or-right : (a b : Bool) → b ≡ true → (a || b) ≡ true
+or-right true b e = refl
+or-right false b e = e
+
+-- two tests that imply each other are one
+pub iff : (a b : Bool) → (a ≡ true → b ≡ true) → (b ≡ true → a ≡ true) → a ≡ b
+iff true b f g = sym (f refl)
+iff false true f g = g refl
+iff false false f g = refl
