@@ -49,7 +49,7 @@ ways w =
     (λ f. inr (inr (inr (rw (e, f))))))
 
 -- a key that has a canonical form goes by one of two ways
-key-ways : (w k : Words) → canonicalKey w ≡ Key k → ((n : ℕ) × (k ≡ integer n)) ⊎ ((k ≡ w) × (canonicalKey w ≡ Key w))
+pub key-ways : (w k : Words) → canonicalKey w ≡ Key k → ((n : ℕ) × (k ≡ integer n)) ⊎ ((k ≡ w) × (canonicalKey w ≡ Key w))
 key-ways w k e = elim (ways w) [
   | inl a ↦ let z : _≡_ {A = ℕ} 0 1 = cc in absurd (omega arith)
   | inr (inl a) ↦ let z : _≡_ {A = ℕ} 0 1 = cc in absurd (omega arith)

@@ -7,7 +7,7 @@ use native.Mathlib.Nat.{le-of-suc-le-suc, not-suc-le-zero}
 use native.Mathlib.Omega.{arith}
 use lib.Dec.{eqb, leb, ltb}
 use lib.ListN.{length, getD, set}
-use borrow.Author.Tests.{leb-true, ltb-true, eqb-true, lt-ltb, le-ltb, le-leb}
+use borrow.Author.Tests.{leb-true, ltb-true, eqb-true, lt-ltb, le-leb}
 use Rattle.value.specs.declared.Words.{Words}
 use Rattle.value.specs.Same.{same, nil}
 use Rattle.value.proofs.Cases.{caseb, clash, and-left, and-right}
@@ -49,9 +49,12 @@ pub within-integer : (A i : ℕ) → i < A → i < largest → within A (integer
 unfolding within
 within-integer A i h g = rw (index-integer i g) (lt-ltb i A h)
 
-pub outside-integer : (A i : ℕ) → A ≤ i → i < largest → within A (integer (suc i)) ≡ false
-unfolding within
-outside-integer A i h g = rw (index-integer i g) (le-ltb i A h)
+pub outside-integer : (A i : ℕ) → A ≤ i → within A (integer (suc i)) ≡ false
+outside-integer A i h =
+    caseb (within A (integer (suc i)))
+    (λ y. let r : Inside A (integer (suc i)) = inside A (integer (suc i)) y in
+    let z : suc i ≡ suc (r .i) = ap (λ (x : Words). x .payload) (r .is) in absurd (omega (arith, r .i<)))
+    (λ n. n)
 
 pub within-more : (A B : ℕ) (k : Words) → A ≤ B → within B k ≡ false → within A k ≡ false
 within-more A B k h e =
@@ -61,13 +64,13 @@ within-more A B k h e =
     (λ n. n)
 
 -- ---- the array's pairs: the key of place i is there, with its value
-not-first : (n i : ℕ) (k : Words) → k ≡ integer (suc (n + suc i)) → same (integer (suc n)) k ≡ false
+pub not-first : (n i : ℕ) (k : Words) → k ≡ integer (suc (n + suc i)) → same (integer (suc n)) k ≡ false
 not-first n i k p = ne-same (integer (suc n)) k (λ q. let z : suc n ≡ suc (n + suc i) = ap (λ (x : Words). x .payload) (q ∙ p) in omega arith)
 
-is-first : (n : ℕ) (k : Words) → k ≡ integer (suc (n + 0)) → same (integer (suc n)) k ≡ true
+pub is-first : (n : ℕ) (k : Words) → k ≡ integer (suc (n + 0)) → same (integer (suc n)) k ≡ true
 is-first n k p = eq-same (integer (suc n)) k (sym (p ∙ ap integer (omega arith)))
 
-next-place : (n i : ℕ) (k : Words) → k ≡ integer (suc (n + suc i)) → k ≡ integer (suc (suc n + i))
+pub next-place : (n i : ℕ) (k : Words) → k ≡ integer (suc (n + suc i)) → k ≡ integer (suc (suc n + i))
 next-place n i k p = p ∙ ap integer (omega arith)
 
 pub find-array : (vs : List Words) (n i : ℕ) (k : Words) → k ≡ integer (suc (n + i)) → i < length vs → find (arrayPairs n vs) k ≡ getD vs i nil

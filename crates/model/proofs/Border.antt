@@ -84,8 +84,8 @@ pub get-integer : (t : Table) (n : ℕ) → getOf t (integer n) ≡ lookup t (in
 get-integer t n = get-key t (integer n) (integer n) (canonical-integer n)
 
 -- past the array, a number with no entry is Nil
-pub past-array : (t : Table) (n : ℕ) → length (t .array) ≤ n → n < largest → has (t .entries) (integer (suc n)) ≡ false → nilAt t (suc n) ≡ true
-past-array t n h g e = ap isNil (lookup-absent t (integer (suc n)) (outside-integer (length (t .array)) n h g) e) ∙ same-refl nil
+pub past-array : (t : Table) (n : ℕ) → length (t .array) ≤ n → has (t .entries) (integer (suc n)) ≡ false → nilAt t (suc n) ≡ true
+past-array t n h e = ap isNil (lookup-absent t (integer (suc n)) (outside-integer (length (t .array)) n h) e) ∙ same-refl nil
 
 -- the array's last value, and any other
 pub in-array : (t : Table) (n : ℕ) → n < length (t .array) → n < largest → lookup t (integer (suc n)) ≡ getD (t .array) n nil
@@ -98,7 +98,7 @@ border-of t small =
     caseb (leb 1 A && isNil (getD (t .array) (pred A) nil))
     (λ b. rw b (of-halved (halve-is (nilAt t) 64 0 A (leb-true 1 A (and-left (leb 1 A) (isNil (getD (t .array) (pred A) nil)) b)) (omega arith) (inl refl) (at-end b))))
     (λ b. rw b (caseb (eqb (length (t .entries)) 0)
-    (λ c. rw c (of-halved {hi = suc A} (record { lower = full b; upper = past-array t A (le-self A) (omega arith) (none (t .entries) (eqb-true (length (t .entries)) 0 c)); less = le-self (suc A) })))
+    (λ c. rw c (of-halved {hi = suc A} (record { lower = full b; upper = past-array t A (le-self A) (none (t .entries) (eqb-true (length (t .entries)) 0 c)); less = le-self (suc A) })))
     (λ c. rw c (caseb (eqb hi largest && not (nilAt t hi))
     (λ d. rw d (record {
       lower = inr (ap isNil (get-integer t hi) ∙ not-true (nilAt t hi) (and-right (eqb hi largest) (not (nilAt t hi)) d));
@@ -137,7 +137,7 @@ border-of t small =
 
     past-hi : (n : ℕ) → n ≡ hi → has (t .entries) (integer n) ≡ false → nilAt t n ≡ true
     past-hi zero q e = absurd (not-suc-le-zero {n = 0} (omega (arith, dd .low)))
-    past-hi (suc n) q e = past-array t n (omega (arith, dd .low)) (omega (arith, dd .high)) e
+    past-hi (suc n) q e = past-array t n (omega (arith, dd .low)) e
 
     nil-there : (eqb hi largest && not (nilAt t hi)) ≡ false → (has (t .entries) (integer hi) ≡ false) ⊎ (hi ≡ largest) → nilAt t hi ≡ true
     nil-there d (inl e) = past-hi hi refl e

@@ -5,6 +5,7 @@ pub mod Map
 pub mod Kept
 pub mod Refusals
 pub mod Next
+pub mod Meaning
 pub mod Border
 pub mod Classes
 pub mod Rows

@@ -161,7 +161,7 @@ set-sets room t k v w =
     (λ f. rw f (grow-sets room t k v w c z))))))))
 
 -- ---- reserve changes no value
-purged-lookup : (t u : Table) (j : Words) → distinct (keysOf (t .entries)) → u .array ≡ t .array → u .entries ≡ keep live (t .entries) → lookup u j ≡ lookup t j
+pub purged-lookup : (t u : Table) (j : Words) → distinct (keysOf (t .entries)) → u .array ≡ t .array → u .entries ≡ keep live (t .entries) → lookup u j ≡ lookup t j
 purged-lookup t u j d p q =
     let len : length (u .array) ≡ length (t .array) = ap length p in
     caseb (within (length (t .array)) j)

@@ -4,7 +4,8 @@ use mathlib.Core.Path.{_≡_, refl, sym, ap, subst, _∙_}
 use mathlib.Core.Bool.{true, false, not}
 use mathlib.Core.List.{List, [], _∷_, _++_, append-assoc}
 use mathlib.Core.Logic.{_⊎_, inl, inr}
-use Prim.Native.Nat.{suc}
+use Prim.Native.Nat.{ℕ, suc}
+use native.Mathlib.Omega.{arith}
 use lib.ListN.{length}
 use Rattle.value.specs.declared.Words.{Words}
 use Rattle.value.specs.Same.{same, nil, isNil}
@@ -13,7 +14,7 @@ use Rattle.value.proofs.Same.{same-eq, same-refl, ne-same, not-live}
 use Rattle.key.specs.declared.CanonicalKey.the-variants.{Key}
 use Rattle.key.specs.Canonical.{canonicalKey}
 use Rattle.key.proofs.Own.{canonical-integer}
-use Rattle.model.specs.Entries.{Entry, keysOf, distinct, has, find, keep, live, NextValue, first, from}
+use Rattle.model.specs.Entries.{Entry, entry, keysOf, distinct, has, find, keep, live, NextValue, first, from}
 use Rattle.model.specs.Table.{Room, Table, within, pairs, lookup, getOf, nextOf}
 use Rattle.model.specs.WellFormed.{WellFormed}
 use Rattle.model.specs.Manual.{Lists, end, more, PairsOf}
@@ -66,10 +67,22 @@ lists next l after (s ∷ post) pre q key h =
     (λ b. rw b (lists next l after post (pre ++ (s ∷ [])) q′ key (rw b at h)))
     (λ b. rw b (more (s .key) (s .value) (rw b at h) (lists next l after post (pre ++ (s ∷ [])) q′ (s .key) (after pre s post q))))
 
-next-after : {room : Room} (t : Table) → WellFormed room t → (pre : List Entry) (s : Entry) (post : List Entry) → pre ++ (s ∷ post) ≡ pairs t → nextOf t (s .key) ≡ first post
+-- after a pair of a well-formed table comes the first with a value behind it
+pub next-after : {room : Room} (t : Table) → WellFormed room t → (pre : List Entry) (s : Entry) (post : List Entry) → pre ++ (s ∷ post) ≡ pairs t → nextOf t (s .key) ≡ first post
 next-after t w pre s post q =
     next-key t (s .key) (pair-canonical (s .key) w (subst (λ (l : List Entry). has l (s .key) ≡ true) q (has-middle pre s post)))
     ∙ subst (λ (l : List Entry). from l (s .key) ≡ first post) q (from-middle pre s post (subst (λ (l : List Entry). distinct (keysOf l)) (sym q) (pairs-apart w)))
+
+-- what a walk lists is determined
+pub lists-one : (next : Words → NextValue) {key : Words} {l m : List Entry} → Lists next key l → Lists next key m → l ≡ m
+lists-one next (end p) (end q) = refl
+lists-one next (end p) (more k v q b) = let z : _≡_ {A = ℕ} 0 1 = cc in absurd (omega arith)
+lists-one next (more k v p a) (end q) = let z : _≡_ {A = ℕ} 0 1 = cc in absurd (omega arith)
+lists-one next (more {ss = ss} k v p a) (more {ss = rs} j u q b) =
+    let kk : j ≡ k = cc in
+    let vv : v ≡ u = cc in
+    let rest : ss ≡ rs = lists-one next a (subst (λ (x : Words). Lists next x rs) kk b) in
+    λ i. entry (sym kk i) (vv i) ∷ rest i
 
 -- ---- the pairs with a value are the map's
 has-live : (l : List Entry) (k : Words) → distinct (keysOf l) → has (keep live l) k ≡ not (isNil (find l k))

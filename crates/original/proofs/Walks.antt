@@ -1,0 +1,108 @@
+-- A walk of the original's by `next` lists the pairs of its view, so after the same calls the two walks list the same pairs, each once,
+-- whatever their order. Assumes nothing.
+use mathlib.Core.Path.{_≡_, refl, sym, ap, subst, _∙_}
+use mathlib.Core.Bool.{true, false, not, true≢false}
+use mathlib.Core.List.{List, [], _∷_, _++_}
+use mathlib.Core.Logic.{inl, inr}
+use Prim.Native.Nat.{ℕ, zero, suc, _+_, _<_}
+use native.Mathlib.Nat.{le-of-suc-le-suc, not-suc-le-zero}
+use native.Mathlib.Omega.{arith}
+use lib.Dec.{eqb}
+use lib.ListN.{length, drop}
+use Rattle.value.specs.declared.Words.{Words}
+use Rattle.value.specs.Same.{same, nil, isNil}
+use Rattle.value.proofs.Cases.{caseb, or-cases}
+use Rattle.key.specs.declared.CanonicalKey.the-variants.{Key}
+use Rattle.key.specs.Canonical.{integer, canonicalKey}
+use Rattle.key.proofs.Own.{canonical-integer}
+use Rattle.key.proofs.Original.{original-key, original-index}
+use Rattle.model.specs.Entries.{Entry, keysOf, distinct, has, keep, live, Each, first, from}
+use Rattle.model.specs.Table.{within, arrayPairs, pairs, lookup}
+use Rattle.model.specs.Manual.{Lists, PairsOf}
+use Rattle.model.proofs.Array.{is-first, not-first, next-place, Inside, inside, has-array-within, has-pairs, find-pairs, distinct-pairs}
+use Rattle.model.proofs.Next.{has-middle, from-middle, lists, live-pairs}
+use Rattle.original.specs.Original.{Cell, Original, foundAt, firstCell, fromCell, firstPair, originalNext}
+use Rattle.original.specs.Runs.{Kinds, Known}
+use Rattle.original.specs.Agreement.{SamePairs}
+use Rattle.original.proofs.View.{shown, cells, view, matches-shown}
+use Rattle.original.proofs.Right.{Lively, Right}
+use Rattle.original.proofs.Sets.{integer-known, numbered}
+
+-- ---- our `from` on joined lists
+from-array : (vs : List Words) (n i : ℕ) (k : Words) (m : List Entry) → k ≡ integer (suc (n + i)) → i < length vs → from (arrayPairs n vs ++ m) k ≡ first (drop (suc i) (arrayPairs n vs) ++ m)
+from-array [] n i k m p h = absurd (not-suc-le-zero h)
+from-array (v ∷ vs) n zero k m p h = rw (is-first n k p)
+from-array (v ∷ vs) n (suc i) k m p h = rw (not-first n i k p) (from-array vs (suc n) i k m (next-place n i k p) (le-of-suc-le-suc h))
+
+from-append-not : (l m : List Entry) (k : Words) → has l k ≡ false → from (l ++ m) k ≡ from m k
+from-append-not [] m k h = refl
+from-append-not (s ∷ ss) m k h = caseb (same (s .key) k) (λ e. absurd (true≢false (rw e at h))) (λ e. rw e (from-append-not ss m k (rw e at h)))
+
+not-nil : (k : Words) → canonicalKey k ≡ Key k → eqb (k .kind) 0 ≡ false
+unfolding canonicalKey
+not-nil k c = caseb (eqb (k .kind) 0) (λ e. let q = rw e at c in let z : _≡_ {A = ℕ} 0 1 = cc in absurd (omega arith)) (λ e. e)
+
+module _ (kinds : Kinds) where
+  -- ---- the map, its cells with a value alive
+  firstCell-shown : (cs : List Cell) → Each (Lively kinds) cs → firstCell cs ≡ first (cells kinds cs)
+  firstCell-shown [] a = refl
+  firstCell-shown (c ∷ cs) a =
+      caseb (isNil (c .value))
+      (λ e. rw e (firstCell-shown cs (a .1)))
+      (λ e. rw e (ap (λ k. foundAt k (c .value)) (a .0 (rw e))))
+
+  firstPair-shown : (ss : List Entry) (cs : List Cell) → Each (Lively kinds) cs → firstPair ss cs ≡ first (ss ++ cells kinds cs)
+  firstPair-shown [] cs a = firstCell-shown cs a
+  firstPair-shown (s ∷ ss) cs a = rw (firstPair-shown ss cs a)
+
+  fromCell-shown : (cs : List Cell) (k : Words) → Known kinds k → Each (Lively kinds) cs → fromCell cs k ≡ from (cells kinds cs) k
+  fromCell-shown [] k n a = refl
+  fromCell-shown (c ∷ cs) k n a = rw (matches-shown kinds (c .key) k n, firstCell-shown cs (a .1), fromCell-shown cs k n (a .1))
+
+  -- ---- next, through all pairs of the view
+  pub original-first : (r : Original) → Right kinds r → originalNext r nil ≡ first (pairs (view kinds r))
+  unfolding originalNext canonicalKey pairs
+  original-first r s = rw (original-index nil) (firstPair-shown (arrayPairs 0 (r .array)) (r .map) (s .lively))
+
+  pub original-from : (r : Original) (k : Words) → Right kinds r → canonicalKey k ≡ Key k → Known kinds k → originalNext r k ≡ from (pairs (view kinds r)) k
+  unfolding originalNext pairs within
+  original-from r k s c n =
+      rw (original-index k, original-key k, c)
+      (caseb (within (length (r .array)) k)
+      (λ b. let x : Inside (length (r .array)) k = inside (length (r .array)) k b in
+      rw (b, x .index) (firstPair-shown (drop (suc (x .i)) (arrayPairs 0 (r .array))) (r .map) (s .lively)
+      ∙ sym (from-array (r .array) 0 (x .i) k (cells kinds (r .map)) (x .is ∙ ap integer (omega arith)) (x .i<))))
+      (λ b. rw (b, not-nil k c) (fromCell-shown (r .map) k n (s .lively)
+      ∙ sym (from-append-not (arrayPairs 0 (r .array)) (cells kinds (r .map)) k (has-array-within (r .array) k (numbered kinds r s) ∙ b)))))
+
+  -- a key of the view is canonical and known
+  pair-key : (r : Original) (k : Words) → Right kinds r → has (pairs (view kinds r)) k ≡ true → (canonicalKey k ≡ Key k) × Known kinds k
+  pair-key r k s h = elim (or-cases (within (length (r .array)) k) (has (cells kinds (r .map)) k) (sym (has-pairs (view kinds r) k (numbered kinds r s)) ∙ h)) [
+    | inl e ↦ let x : Inside (length (r .array)) k = inside (length (r .array)) k e in rw (x .is) (canonical-integer (suc (x .i)), integer-known kinds (suc (x .i)))
+    | inr e ↦ (s .placed k e .canonical, s .placed k e .known)
+  ]
+
+  pairs-once : (r : Original) → Right kinds r → distinct (keysOf (pairs (view kinds r)))
+  pairs-once r s = distinct-pairs (view kinds r) (numbered kinds r s) (s .apart) (λ k h. s .placed k h .outside)
+
+  original-after : (r : Original) → Right kinds r → (pre : List Entry) (x : Entry) (post : List Entry) → pre ++ (x ∷ post) ≡ pairs (view kinds r) → originalNext r (x .key) ≡ first post
+  original-after r s pre x post q =
+      let is : (canonicalKey (x .key) ≡ Key (x .key)) × Known kinds (x .key) = pair-key r (x .key) s (subst (λ (l : List Entry). has l (x .key) ≡ true) q (has-middle pre x post)) in
+      original-from r (x .key) s (is .0) (is .1)
+      ∙ subst (λ (l : List Entry). from l (x .key) ≡ first post) q (from-middle pre x post (subst (λ (l : List Entry). distinct (keysOf l)) (sym q) (pairs-once r s)))
+
+  pub original-lists : (r : Original) → Right kinds r → Lists (originalNext r) nil (keep live (pairs (view kinds r))) × PairsOf (lookup (view kinds r)) (keep live (pairs (view kinds r)))
+  original-lists r s = (
+    lists (originalNext r) (pairs (view kinds r)) (original-after r s) (pairs (view kinds r)) [] refl nil (original-first r s),
+    live-pairs (lookup (view kinds r)) (pairs (view kinds r)) (pairs-once r s) (λ k. find-pairs (view kinds r) k (numbered kinds r s)),
+  )
+
+-- ---- two maps with the same values have the same pairs
+pub same-pairs : (m n : Words → Words) (k l : List Entry) → ((j : Words) → m j ≡ n j) → PairsOf m k → PairsOf n l → SamePairs k l
+same-pairs m n k l h p q =
+    record {
+      onceHere = p .once;
+      onceThere = q .once;
+      keys = λ j. p .each j ∙ ap (λ (v : Words). not (isNil v)) (h j) ∙ sym (q .each j);
+      values = λ j. p .shown j ∙ h j ∙ sym (q .shown j);
+    }

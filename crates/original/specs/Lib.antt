@@ -1,0 +1,3 @@
+pub mod Original
+pub mod Runs
+pub mod Agreement
