@@ -22,7 +22,7 @@ use Rattle.value.proofs.Cases.{caseb, clash, iff, and-left, and-right, or-cases
 use Rattle.value.proofs.Same.{same-eq, eq-same, same-ne}
 use Rattle.key.specs.Refusals.{keyIsNil, keyIsNaN}
 use Rattle.key.specs.Canonical.{integer, number, largest, ratio, wholeOf, wholeKey, keyOf, numberKey, canonicalKey}
-use Rattle.key.specs.Manual.{isNumber, exact, rawEqual, saturates}
+use Rattle.key.specs.Manual.{IsInteger, isNumber, exact, rawEqual, saturates}
 use Rattle.key.specs.declared.Whole.{Whole}
 use Rattle.key.specs.declared.Whole.the-variants.{Is, Not}
 use Rattle.key.specs.declared.CanonicalKey.the-variants.{Key, No}
@@ -65,14 +65,6 @@ real-key b k h =
     caseb (nanBits binary64 b)
     (λ t. let g : No keyIsNaN ≡ Key k = rw t at h in let z : _≡_ {A = ℕ} 0 1 = cc in absurd (omega arith))
     (λ t. let g : Key (keyOf b (wholeOf (ofBits binary64 b))) ≡ Key k = rw t at h in (t, cc))
-
--- the integer that the float with the bits b is, and its key
-pub record IsInteger (b : ℕ) (k : Words) : Type 0 where
-  pub sign : Bool
-  pub size : ℕ
-  pub value : HasValue (ofBits binary64 b) sign size 1
-  pub small : size ≤ 2 ^ 63
-  pub key : k ≡ wholeKey sign size
 
 -- and no other float has an integer for its key
 pub integer-float : (b : ℕ) (k : Words) → numberKey b ≡ Key k → k .kind ≡ 2 → IsInteger b k

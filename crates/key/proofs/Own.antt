@@ -5,7 +5,7 @@ use mathlib.Core.Bool.{true, false}
 use mathlib.Core.Logic.{_⊎_, inl, inr}
 use Prim.Native.Nat.{ℕ, _-_, _%_, _^_}
 use native.Mathlib.Omega.{arith}
-use borrow.Author.Tests.{eqb-true}
+use borrow.Author.Tests.{eqb-true, eq-eqb}
 use lib.Dec.{eqb}
 use lib.Ieee.{binary64, ofBits, nanBits}
 use Rattle.value.specs.declared.Words.{Words}
@@ -48,6 +48,14 @@ ways w =
     ]))
     (λ f. inr (inr (inr (rw (e, f))))))
 
+-- a call goes by the canonical form, or by the refusal
+pub by-key : {P : Type 0} (w : Words) → ((k : Words) → canonicalKey w ≡ Key k → P) → ((n : ℕ) → canonicalKey w ≡ No n → P) → P
+by-key w f g = go (canonicalKey w) f g
+  where
+    go : {P : Type 0} (c : CanonicalKey) → ((k : Words) → c ≡ Key k → P) → ((n : ℕ) → c ≡ No n → P) → P
+    go (Key k) f g = f k refl
+    go (No n) f g = g n refl
+
 -- a key that has a canonical form goes by one of two ways
 pub key-ways : (w k : Words) → canonicalKey w ≡ Key k → ((n : ℕ) × (k ≡ integer n)) ⊎ ((k ≡ w) × (canonicalKey w ≡ Key w))
 key-ways w k e = elim (ways w) [
@@ -74,3 +82,11 @@ no-key w n e = elim (ways w) [
   | inr (inr (inl a)) ↦ let z : _≡_ {A = ℕ} 0 1 = cc in absurd (omega arith)
   | inr (inr (inr a)) ↦ let z : _≡_ {A = ℕ} 0 1 = cc in absurd (omega arith)
 ]
+
+pub nil-no-key : (w : Words) → w .kind ≡ 0 → canonicalKey w ≡ No keyIsNil
+unfolding canonicalKey
+nil-no-key w h = rw (eq-eqb (w .kind) 0 h)
+
+pub nan-no-key : (w : Words) → w .kind ≡ 3 → nanBits binary64 (w .payload) ≡ true → canonicalKey w ≡ No keyIsNaN
+unfolding canonicalKey numberKey
+nan-no-key w h n = rw (h, n)

@@ -18,7 +18,7 @@ use Rattle.key.specs.declared.ArrayIndex.the-variants.{At, Nothing}
 use Rattle.key.specs.Canonical.{arrayIndex}
 use Rattle.model.specs.Entries.{Entry, live}
 use Rattle.model.specs.Table.{below, within}
-use Rattle.model.specs.Growth.{countBelow, ofClass, tally, tallyTo, best}
+use Rattle.model.specs.Growth.{countBelow, ofClass, tally, tallyTo, best, Passes}
 
 -- ---- of one index: it lies below 2 ^ c exactly when its class is at most c
 abbrev upTo : ℕ → ArrayIndex → Bool
@@ -69,11 +69,6 @@ classes (s ∷ l) c =
     ∙ ap₂ (λ (m n : ℕ). m + n) (ap (λ (b : Bool). cond (live s && b) 1 0) (class-below c (arrayIndex (s .key)))) (classes l c)
 
 -- ---- S
--- a power of two that is at most a, and more than half of whose places are counted
-pub record Passes (count : ℕ → ℕ) (a S : ℕ) : Type 0 where
-  pub fits : S ≤ a
-  pub enough : S / 2 < count S
-
 pub best-passes : (count : ℕ → ℕ) (a i : ℕ) → (best count a i ≡ 0) ⊎ Passes count a (best count a i)
 unfolding best
 best-passes count a zero = inl refl

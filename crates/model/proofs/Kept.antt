@@ -12,17 +12,16 @@ use Rattle.value.specs.declared.Words.{Words}
 use Rattle.value.specs.Encoding.{decodes}
 use Rattle.value.specs.Same.{same, nil, isNil}
 use Rattle.value.proofs.Cases.{caseb, and-right}
-use Rattle.key.specs.declared.CanonicalKey.{CanonicalKey}
-use Rattle.key.specs.declared.CanonicalKey.the-variants.{Key, No}
-use Rattle.key.specs.Canonical.{integer, canonicalKey, onKey}
-use Rattle.key.proofs.Own.{canonical-own, canonical-decodes}
+use Rattle.key.specs.declared.CanonicalKey.the-variants.{Key}
+use Rattle.key.specs.Canonical.{integer, canonicalKey}
+use Rattle.key.proofs.Own.{by-key, canonical-own, canonical-decodes}
 use Rattle.model.specs.Entries.{Entry, entry, keysOf, has, find, keep, live, Each}
 use Rattle.model.specs.Table.{Room, Table, fresh, within, indexOf, lookup}
 use Rattle.model.specs.Growth.{candidates, optimalSize, stays, rehashed, grownAllowance}
-use Rattle.model.specs.Calls.{refuse, writeArray, writeEntry, append, placeIn, grow, setKey, setOf, reserveOf}
+use Rattle.model.specs.Calls.{writeArray, writeEntry, append, placeIn, grow, setKey, setOf, reserveOf}
 use Rattle.model.specs.WellFormed.{Decodes, ZeroOrPower, WellFormed}
 use Rattle.model.proofs.Entries.{put-keys, length-put, keys-append, has-snoc, kept-entry, length-keep, distinct-snoc, distinct-keep, each-append, each-keep, each-put, each-set, each-tabulate}
-use Rattle.model.proofs.Map.{rehashed-length, best-power, size-le, absent-still}
+use Rattle.model.proofs.Map.{set-key, set-no-key, rehashed-length, best-power, size-le, absent-still}
 
 abbrev DecodesBoth : Entry → Type 0
 DecodesBoth s = Decodes (s .key) × Decodes (s .value)
@@ -183,12 +182,10 @@ setKey-kept room t k v w dk dv c =
     (rehashed-kept room t S (size-le room t k) (best-power (candidates t k) (room .arrayRoom) (room .classes)) w) dk dv c (absent-still t S k n)))))))))
 
 pub setOf-kept : (room : Room) (t : Table) (key v : Words) → WellFormed room t → Decodes key → Decodes v → WellFormed room ((setOf room t key v) .table)
-unfolding setOf
-setOf-kept room t key v w dk dv = go (canonicalKey key) refl
-  where
-    go : (c : CanonicalKey) → canonicalKey key ≡ c → WellFormed room ((onKey c (λ n. refuse n t) (λ k. setKey room t k v)) .table)
-    go (Key k) e = setKey-kept room t k v w (canonical-decodes key k dk e) dv (canonical-own key k e)
-    go (No n) e = w
+setOf-kept room t key v w dk dv =
+    by-key key
+    (λ k e. rw (set-key room t key v k e) (setKey-kept room t k v w (canonical-decodes key k dk e) dv (canonical-own key k e)))
+    (λ n e. rw (set-no-key room t key v n e) w)
 
 pub reserve-kept : (room : Room) (t : Table) (n : ℕ) → WellFormed room t → WellFormed room ((reserveOf room t n) .table)
 unfolding reserveOf

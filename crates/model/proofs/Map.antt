@@ -14,14 +14,24 @@ use Rattle.value.specs.Same.{same, nil, isNil}
 use Rattle.value.proofs.Cases.{caseb, and-left}
 use Rattle.value.proofs.Same.{same-eq, not-live}
 use Rattle.key.specs.Refusals.{noRoom}
-use Rattle.key.specs.Canonical.{integer, largest}
+use Rattle.key.specs.declared.CanonicalKey.the-variants.{Key, No}
+use Rattle.key.specs.Canonical.{integer, largest, canonicalKey}
 use Rattle.model.specs.Entries.{Entry, keysOf, distinct, has, find, keep, live}
 use Rattle.model.specs.Table.{Room, Table, within, pairs, lookup}
 use Rattle.model.specs.Growth.{candidates, best, optimalSize, stays, rehashed, grownAllowance}
-use Rattle.model.specs.Calls.{Outcome, refuse, writeArray, writeEntry, append, placeIn, grow, setKey, reserveOf}
+use Rattle.model.specs.Calls.{Outcome, refuse, writeArray, writeEntry, append, placeIn, grow, setKey, setOf, reserveOf}
 use Rattle.model.specs.WellFormed.{ZeroOrPower, WellFormed}
 use Rattle.model.proofs.Entries.{find-put, find-snoc, has-keep, find-keep, length-tabulate, getD-tabulate}
 use Rattle.model.proofs.Array.{Inside, inside, within-more, has-pairs, lookup-within, lookup-array, lookup-outside, lookup-absent, find-pairs, pairs-writeArray, pairs-writeEntry, pairs-append}
+
+-- ---- set by the canonical key, or by the refusal
+pub set-key : (room : Room) (t : Table) (key v k : Words) → canonicalKey key ≡ Key k → setOf room t key v ≡ setKey room t k v
+unfolding setOf
+set-key room t key v k e = rw e
+
+pub set-no-key : (room : Room) (t : Table) (key v : Words) (n : ℕ) → canonicalKey key ≡ No n → setOf room t key v ≡ refuse n t
+unfolding setOf
+set-no-key room t key v n e = rw e
 
 -- a map with v at k
 abbrev pub updated : (Words → Words) → Words → Words → Words → Words

@@ -1,27 +1,21 @@
 -- What a script sees of a set and a reserve, by get, for any values as keys (01, 'Calls'): after a set that is done, get gives the value at
 -- every key that is this one, and elsewhere what it gave before; what the set answers is what get gave before. Assumes nothing.
-use mathlib.Core.Path.{_≡_, refl, sym, _∙_}
-use mathlib.Core.Bool.{false}
+use mathlib.Core.Path.{_≡_, sym, _∙_}
 use mathlib.Core.Logic.{_⊎_, inl, inr}
 use Prim.Native.Nat.{ℕ}
 use Rattle.value.specs.declared.Words.{Words}
-use Rattle.value.specs.Same.{same, nil}
+use Rattle.value.specs.Same.{nil}
 use Rattle.value.proofs.Same.{same-refl}
-use Rattle.key.specs.declared.CanonicalKey.{CanonicalKey}
 use Rattle.key.specs.declared.CanonicalKey.the-variants.{Key, No}
 use Rattle.key.specs.Refusals.{noRoom}
-use Rattle.key.specs.Canonical.{canonicalKey, onKey}
+use Rattle.key.specs.Canonical.{canonicalKey}
+use Rattle.key.proofs.Own.{by-key}
 use Rattle.model.specs.Table.{Room, Table, lookup, getOf}
-use Rattle.model.specs.Calls.{Outcome, refuse, setKey, setOf, reserveOf}
+use Rattle.model.specs.Calls.{refuse, setKey, setOf, reserveOf}
 use Rattle.model.specs.WellFormed.{WellFormed}
-use Rattle.model.proofs.Map.{Sets, set-sets, reserve-lookup}
-use Rattle.model.proofs.Refusals.{set-key}
+use Rattle.model.specs.Means.{Means}
+use Rattle.model.proofs.Map.{set-key, Sets, set-sets, reserve-lookup}
 use Rattle.model.proofs.Next.{get-key}
-
-pub record Means (t : Table) (key k v : Words) (o : Outcome) : Type 0 where
-  pub previously : o .previous ≡ getOf t key
-  pub here : (j : Words) → canonicalKey j ≡ Key k → getOf (o .table) j ≡ v
-  pub elsewhere : (j i : Words) → canonicalKey j ≡ Key i → same k i ≡ false → getOf (o .table) j ≡ getOf t j
 
 -- a set of a key is done, and means this, or is refused for want of room
 pub set-means : (room : Room) (t : Table) (key k v : Words) → WellFormed room t → canonicalKey key ≡ Key k
@@ -47,9 +41,8 @@ get-no-key t key n e = rw e
 
 -- reserve, done or refused, changes no value
 pub reserve-means : (room : Room) (t : Table) (n : ℕ) (key : Words) → WellFormed room t → getOf ((reserveOf room t n) .table) key ≡ getOf t key
-unfolding getOf
-reserve-means room t n key w = go (canonicalKey key)
-  where
-    go : (c : CanonicalKey) → onKey c (λ (m : ℕ). nil) (lookup ((reserveOf room t n) .table)) ≡ onKey c (λ (m : ℕ). nil) (lookup t)
-    go (Key k) = reserve-lookup room t n k w
-    go (No m) = refl
+reserve-means room t n key w =
+    let u : Table = (reserveOf room t n) .table in
+    by-key key
+    (λ k e. get-key u key k e ∙ reserve-lookup room t n k w ∙ sym (get-key t key k e))
+    (λ m e. get-no-key u key m e ∙ sym (get-no-key t key m e))

@@ -1,44 +1,28 @@
 -- Refusals: 1 and 2 exactly for a key that is Nil or NaN, 3 exactly under 01's step 5, for reserve exactly when L + n > e; and a refusal
 -- answers the table as it was ('Refusal numbers'). Assumes nothing.
-use mathlib.Core.Path.{_≡_, refl, ap}
-use mathlib.Core.Bool.{false}
+use mathlib.Core.Path.{_≡_, ap, _∙_}
+use mathlib.Core.Bool.{true}
 use mathlib.Core.Logic.{_⊎_, inl, inr}
-use Prim.Native.Nat.{ℕ, _+_, _-_, _≤_, _<_}
+use Prim.Native.Nat.{ℕ, _+_, _-_, _≤_}
 use native.Mathlib.Omega.{arith}
 use lib.Dec.{leb, ltb}
+use lib.Ieee.{binary64, nanBits}
 use lib.ListN.{length}
 use borrow.Author.Tests.{leb-true, leb-false, ltb-true, ltb-false, le-ltb, lt-ltb, le-leb, lt-leb}
 use Rattle.value.specs.declared.Words.{Words}
 use Rattle.value.specs.Same.{nil, isNil}
 use Rattle.value.proofs.Cases.{caseb}
-use Rattle.key.specs.declared.CanonicalKey.{CanonicalKey}
-use Rattle.key.specs.declared.CanonicalKey.the-variants.{Key, No}
-use Rattle.key.specs.Refusals.{noRoom}
-use Rattle.key.specs.Canonical.{canonicalKey, onKey}
+use Rattle.key.specs.Refusals.{keyIsNil, keyIsNaN, noRoom}
+use Rattle.key.specs.declared.CanonicalKey.the-variants.{Key}
+use Rattle.key.specs.Canonical.{canonicalKey}
+use Rattle.key.proofs.Own.{by-key, no-key, nil-no-key, nan-no-key}
 use Rattle.model.specs.Entries.{has, keep, live}
 use Rattle.model.specs.Table.{Room, Table, within, lookup}
 use Rattle.model.specs.Growth.{optimalSize, rehashed}
 use Rattle.model.specs.Calls.{Outcome, done, refuse, placeIn, grow, setKey, setOf, reserveOf}
 use Rattle.model.specs.WellFormed.{WellFormed}
-use Rattle.model.proofs.Map.{Sets, set-sets}
-
--- a key with no canonical form is refused with its number, whatever the value
-pub set-no-key : (room : Room) (t : Table) (key v : Words) (n : ℕ) → canonicalKey key ≡ No n → setOf room t key v ≡ refuse n t
-unfolding setOf
-set-no-key room t key v n e = rw e
-
-pub set-key : (room : Room) (t : Table) (key v k : Words) → canonicalKey key ≡ Key k → setOf room t key v ≡ setKey room t k v
-unfolding setOf
-set-key room t key v k e = rw e
-
--- step 5, with what leads to growth
-pub record Full (room : Room) (t : Table) (k v : Words) : Type 0 where
-  pub notArray : within (length (t .array)) k ≡ false
-  pub absent : has (t .entries) k ≡ false
-  pub value : isNil v ≡ false
-  pub spent : t .allowance ≤ length (t .entries)
-  pub beyond : within (length ((rehashed t (optimalSize room t k)) .array)) k ≡ false
-  pub noPlace : room .entryRoom ≤ length ((rehashed t (optimalSize room t k)) .entries)
+use Rattle.model.specs.Refused.{Full, Refused, nilKey, nanKey, full, NoSpace}
+use Rattle.model.proofs.Map.{set-key, set-no-key, Sets, set-sets}
 
 never : {X : Type 0} → _≡_ {A = ℕ} 0 3 → X
 never p = absurd (differ p)
@@ -69,24 +53,39 @@ unfolding setKey grow placeIn
 full-refused room t k v x =
     rw (x .notArray, x .absent, x .value, le-ltb (length (t .entries)) (t .allowance) (x .spent), x .beyond, le-leb (room .entryRoom) (length ((rehashed t (optimalSize room t k)) .entries)) (x .noPlace))
 
+-- ---- for these reasons, and for no other
+pub set-refused : (room : Room) (t : Table) (key v : Words) → WellFormed room t → ((setOf room t key v) .refusal ≡ 0 → ⊥) → Refused room t key v ((setOf room t key v) .refusal)
+set-refused room t key v w r =
+    by-key key
+    (λ k e. let q : setOf room t key v ≡ setKey room t k v = set-key room t key v k e in rw q (by-room k e (rw q at r) (set-sets room t k v w)))
+    (λ n e. rw (set-no-key room t key v n e) (by-kind n (no-key key n e)))
+  where
+    by-room : (k : Words) → canonicalKey key ≡ Key k → ((setKey room t k v) .refusal ≡ 0 → ⊥) → Sets (lookup t) k v (setKey room t k v) ⊎ (setKey room t k v ≡ refuse noRoom t)
+        → Refused room t key v ((setKey room t k v) .refusal)
+    by-room k e r (inl m) = absurd (r (m .ok))
+    by-room k e r (inr p) = rw p (full k e (refused-full room t k v (ap (λ (o : Outcome). o .refusal) p)))
+
+    by-kind : (n : ℕ) → ((key .kind ≡ 0) × (n ≡ keyIsNil)) ⊎ ((key .kind ≡ 3) × (nanBits binary64 (key .payload) ≡ true) × (n ≡ keyIsNaN)) → Refused room t key v n
+    by-kind n (inl a) = rw (a .1) (nilKey (a .0))
+    by-kind n (inr a) = rw (a .2) (nanKey (a .0) (a .1))
+
+pub refused-set : (room : Room) (t : Table) (key v : Words) {n : ℕ} → Refused room t key v n → (setOf room t key v) .refusal ≡ n
+refused-set room t key v (nilKey h) = ap (λ (o : Outcome). o .refusal) (set-no-key room t key v keyIsNil (nil-no-key key h))
+refused-set room t key v (nanKey h n) = ap (λ (o : Outcome). o .refusal) (set-no-key room t key v keyIsNaN (nan-no-key key h n))
+refused-set room t key v (full k e f) = ap (λ (o : Outcome). o .refusal) (set-key room t key v k e) ∙ full-refused room t k v f
+
 -- what a refused set leaves is the table as it was
 pub refused-same : (room : Room) (t : Table) (key v : Words) → WellFormed room t → ((setOf room t key v) .refusal ≡ 0 → ⊥) → (setOf room t key v) .table ≡ t
-unfolding setOf
-refused-same room t key v w r = go (canonicalKey key) r
+refused-same room t key v w r =
+    by-key key
+    (λ k e. let q : setOf room t key v ≡ setKey room t k v = set-key room t key v k e in ap (λ (o : Outcome). o .table) q ∙ by-room k (rw q at r) (set-sets room t k v w))
+    (λ n e. ap (λ (o : Outcome). o .table) (set-no-key room t key v n e))
   where
     by-room : (k : Words) → ((setKey room t k v) .refusal ≡ 0 → ⊥) → Sets (lookup t) k v (setKey room t k v) ⊎ (setKey room t k v ≡ refuse noRoom t) → (setKey room t k v) .table ≡ t
     by-room k r (inl m) = absurd (r (m .ok))
     by-room k r (inr p) = ap (λ (o : Outcome). o .table) p
 
-    go : (c : CanonicalKey) → ((onKey c (λ n. refuse n t) (λ k. setKey room t k v)) .refusal ≡ 0 → ⊥) → (onKey c (λ n. refuse n t) (λ k. setKey room t k v)) .table ≡ t
-    go (Key k) r = by-room k r (set-sets room t k v w)
-    go (No n) r = refl
-
 -- ---- reserve
-pub record NoSpace (room : Room) (t : Table) (n : ℕ) : Type 0 where
-  pub wanted : t .allowance - length (t .entries) < n
-  pub over : room .entryRoom < length (keep live (t .entries)) + n
-
 pub reserve-refused : (room : Room) (t : Table) (n : ℕ) → (reserveOf room t n) .refusal ≡ noRoom → NoSpace room t n
 unfolding reserveOf
 reserve-refused room t n h =

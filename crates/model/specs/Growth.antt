@@ -2,7 +2,7 @@
 -- Assumes nothing.
 use mathlib.Core.Bool.{Bool, false, cond, _&&_, not}
 use mathlib.Core.List.{List, [], _∷_}
-use Prim.Native.Nat.{ℕ, zero, suc, _+_, _*_, _/_, _^_, min, max}
+use Prim.Native.Nat.{ℕ, zero, suc, _+_, _*_, _/_, _^_, _≤_, _<_, min, max}
 use lib.Dec.{eqb, leb, ltb}
 use lib.Ieee.{size}
 use lib.ListN.{length}
@@ -35,6 +35,11 @@ tally c (s ∷ ss) = cond (live s && ofClass c (arrayIndex (s .key))) 1 0 + tall
 abbrev pub tallyTo : ℕ → List Entry → ℕ
 tallyTo zero l = tally zero l
 tallyTo (suc c) l = tallyTo c l + tally (suc c) l
+
+-- what S has to pass: it is at most a, and more than half of its places are counted
+pub record Passes (count : ℕ → ℕ) (a S : ℕ) : Type 0 where
+  pub fits : S ≤ a
+  pub enough : S / 2 < count S
 
 -- step 2: the largest power of two below 2 ^ n, at most a, with more than half of its places among the counted; 0 if none
 unfoldable pub best : (ℕ → ℕ) → ℕ → ℕ → ℕ

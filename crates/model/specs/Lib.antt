@@ -4,5 +4,7 @@ pub mod Growth
 pub mod Calls
 pub mod Length
 pub mod WellFormed
+pub mod Refused
+pub mod Means
 pub mod Manual
 pub mod Rows

@@ -1,4 +1,5 @@
--- 01's sequences P1 to P11 written down: a row has its room, the calls in order, and what each must answer. Assumes nothing.
+-- 01's sequences P1 to P11 written down, and one of reserve: a row has its room, the calls in order, and what each must answer.
+-- Assumes nothing.
 use mathlib.Core.Bool.{Bool, true, false, _&&_}
 use mathlib.Core.List.{List, [], _∷_, _++_}
 use Prim.Native.Nat.{ℕ, zero, suc, _^_}
@@ -100,8 +101,8 @@ abbrev str : ℕ → Line
 str h = set (string h) yes gives done
 
 -- A, M, E
-abbrev has : ℕ → ℕ → ℕ → Line
-has a m e = record? gives (a ∷ m ∷ e ∷ [])
+abbrev sizes : ℕ → ℕ → ℕ → Line
+sizes a m e = record? gives (a ∷ m ∷ e ∷ [])
 
 -- the walk hands out these keys, all with yes, and then ends
 abbrev walks : Words → List Words → List Line
@@ -113,26 +114,29 @@ powers zero i = []
 powers (suc n) i = int (2 ^ i) ∷ powers n (suc i)
 
 abbrev pub p1 : List Line
-p1 = int 1 ∷ has 1 0 0 ∷ int 2 ∷ has 2 0 0 ∷ int 3 ∷ has 4 0 0 ∷ int 4 ∷ has 4 0 0 ∷ int 5 ∷ has 8 0 0 ∷ []
+p1 = int 1 ∷ sizes 1 0 0 ∷ int 2 ∷ sizes 2 0 0 ∷ int 3 ∷ sizes 4 0 0 ∷ int 4 ∷ sizes 4 0 0 ∷ int 5 ∷ sizes 8 0 0 ∷ []
 
 abbrev pub p2 : List Line
-p2 = int 3 ∷ int 2 ∷ int 1 ∷ int 4 ∷ has 0 4 4
+p2 = int 3 ∷ int 2 ∷ int 1 ∷ int 4 ∷ sizes 0 4 4
     ∷ walks nil (integer 3 ∷ integer 2 ∷ integer 1 ∷ integer 4 ∷ []) ++ ((length? gives (4 ∷ [])) ∷ [])
 
 abbrev pub p3 : List Line
-p3 = p2 ++ (int 5 ∷ has 8 4 0 ∷ walks nil (integer 1 ∷ integer 2 ∷ integer 3 ∷ integer 4 ∷ integer 5 ∷ []))
+p3 = p2 ++ (int 5 ∷ sizes 8 4 0 ∷ walks nil (integer 1 ∷ integer 2 ∷ integer 3 ∷ integer 4 ∷ integer 5 ∷ []))
 
 abbrev pub p4 : List Line
-p4 = str 1 ∷ str 2 ∷ str 3 ∷ str 4 ∷ (set (string 5) yes gives (3 ∷ value nil)) ∷ has 0 4 4 ∷ []
+p4 = str 1 ∷ str 2 ∷ str 3 ∷ str 4 ∷ (set (string 5) yes gives (3 ∷ value nil)) ∷ sizes 0 4 4 ∷ []
 
 abbrev pub p5 : List Line
 p5 = p4 ++ ((set (string 2) nil gives doneYes) ∷ str 5 ∷ (next (string 2) gives (2 ∷ [])) ∷ walks nil (string 1 ∷ string 3 ∷ string 4 ∷ string 5 ∷ []))
 
 abbrev pub p6 : List Line
-p6 = p4 ++ ((set (string 1) yes gives doneYes) ∷ walks nil (string 1 ∷ string 2 ∷ string 3 ∷ string 4 ∷ []))
+p6 = p4
+    ++ ((set (string 1) (integer 7) gives doneYes)
+    ∷ (next nil gives (0 ∷ value (string 1) ++ value (integer 7)))
+    ∷ walks (string 1) (string 2 ∷ string 3 ∷ string 4 ∷ []))
 
 abbrev pub p7 : List Line
-p7 = (set (number 0x8000000000000000) yes gives done) ∷ (get (integer 0) gives value yes) ∷ has 0 4 1 ∷ []
+p7 = (set (number 0x8000000000000000) yes gives done) ∷ (get (integer 0) gives value yes) ∷ sizes 0 4 1 ∷ []
 
 abbrev pub p8 : List Line
 p8 = p7 ++ ((set (number 0x7ff8000000000000) nil gives (2 ∷ value nil)) ∷ [])
@@ -145,6 +149,19 @@ p10 = (reserve 64 gives done) ∷ powers 63 0 ++ (int largest ∷ (length? gives
 
 abbrev pub p11 : List Line
 p11 = p10 ++ ((set (integer largest) nil gives doneYes) ∷ (length? gives (2 ∷ [])) ∷ [])
+
+-- two entries, one cleared: 2 more fit as they stand, 4 more never do, 3 more do once it is dropped
+abbrev pub reserves : List Line
+reserves =
+    (reserve 4 gives done)
+    ∷ str 1
+    ∷ str 2
+    ∷ (set (string 1) nil gives doneYes)
+    ∷ (reserve 2 gives done)
+    ∷ sizes 0 4 2
+    ∷ (reserve 4 gives (3 ∷ value nil))
+    ∷ walks (string 1) (string 2 ∷ [])
+    ++ ((reserve 3 gives done) ∷ sizes 0 4 1 ∷ (next (string 1) gives (2 ∷ [])) ∷ [])
 
 abbrev pub rows : List Row
 rows =
@@ -159,4 +176,5 @@ rows =
     ∷ row 16 16 p9
     ∷ row 0 64 p10
     ∷ row 0 64 p11
+    ∷ row 0 4 reserves
     ∷ []

@@ -13,14 +13,13 @@ use Rattle.value.proofs.Cases.{caseb}
 use Rattle.key.specs.declared.CanonicalKey.the-variants.{Key}
 use Rattle.key.specs.Refusals.{noRoom}
 use Rattle.key.specs.Canonical.{canonicalKey}
-use Rattle.key.proofs.Own.{canonical-own}
+use Rattle.key.proofs.Own.{by-key, canonical-own}
 use Rattle.model.specs.Entries.{keep, live, Each}
 use Rattle.model.specs.Table.{Room, Table, fresh, pairs, lookup, getOf, nextOf}
 use Rattle.model.specs.Calls.{Outcome, setOf, reserveOf}
 use Rattle.model.specs.WellFormed.{WellFormed, Decodes}
-use Rattle.model.proofs.Map.{Sets, set-sets, reserve-lookup}
+use Rattle.model.proofs.Map.{set-key, set-no-key, Sets, set-sets, reserve-lookup}
 use Rattle.model.proofs.Kept.{fresh-kept, setOf-kept, reserve-kept}
-use Rattle.model.proofs.Refusals.{set-no-key, set-key}
 use Rattle.model.proofs.Next.{lists-one, next-lists}
 use Rattle.original.specs.Original.{Cell, Original, new, Choice, Answered, withMap, originalGet, originalSet, originalReserve, originalNext}
 use Rattle.original.specs.Runs.{Answer, value, was, ours, told, Roomy, Call, Shuffled, Runs, stopped, got, written, reserved, Kinds, Known, Comparable}
@@ -28,7 +27,7 @@ use Rattle.original.specs.Agreement.{Agree}
 use Rattle.original.proofs.View.{view}
 use Rattle.original.proofs.Order.{shuffled-find}
 use Rattle.original.proofs.Right.{Right, right-new, right-shuffled}
-use Rattle.original.proofs.Sets.{casek, key-known, Steps, original-sets, original-refuses, reserve-right, reserve-same, original-get}
+use Rattle.original.proofs.Sets.{key-known, Steps, original-sets, original-refuses, reserve-right, reserve-same, original-get}
 use Rattle.original.proofs.Walks.{original-lists, same-pairs}
 use Rattle.original.proofs.Lengths.{same-length}
 
@@ -45,7 +44,7 @@ module _ (room : Room) (kinds : Kinds) (t : Table) (r : Original) (g : Together 
   same-get : (key : Words) → Known kinds key → getOf t key ≡ originalGet r key
   unfolding getOf
   same-get key n =
-      casek (canonicalKey key)
+      by-key key
       (λ k e. rw e (g .maps k))
       (λ m e. rw e) ∙ sym (original-get kinds r key (g .there) n)
 
@@ -71,7 +70,7 @@ module _ (room : Room) (kinds : Kinds) (t : Table) (r : Original) (g : Together 
   -- ---- set
   same-set : (c : Choice) (key v : Words) → Known kinds key → Decodes key → Decodes v → ((setOf room t key v) .refusal ≡ noRoom → ⊥)
       → (told (setOf room t key v) ≡ said (originalSet c r key v)) × Together room kinds ((setOf room t key v) .table) ((originalSet c r key v) .now)
-  same-set c key v n dk dv h = casek (canonicalKey key) known (λ m e. rw (set-no-key room t key v m e, original-refuses kinds c r key v m e) (refl, g))
+  same-set c key v n dk dv h = by-key key known (λ m e. rw (set-no-key room t key v m e, original-refuses kinds c r key v m e) (refl, g))
     where
       known : (k : Words) → canonicalKey key ≡ Key k → (told (setOf room t key v) ≡ said (originalSet c r key v)) × Together room kinds ((setOf room t key v) .table) ((originalSet c r key v) .now)
       known k e = elim (set-sets room t k v (g .here)) [

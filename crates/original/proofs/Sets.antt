@@ -13,10 +13,9 @@ use Rattle.value.specs.declared.Words.{Words}
 use Rattle.value.specs.Same.{same, nil, isNil}
 use Rattle.value.proofs.Cases.{caseb, clash}
 use Rattle.value.proofs.Same.{same-eq, same-refl}
-use Rattle.key.specs.declared.CanonicalKey.{CanonicalKey}
 use Rattle.key.specs.declared.CanonicalKey.the-variants.{Key, No}
 use Rattle.key.specs.Canonical.{integer, largest, canonicalKey}
-use Rattle.key.proofs.Own.{key-ways}
+use Rattle.key.proofs.Own.{by-key, key-ways}
 use Rattle.key.proofs.Original.{original-key, original-index}
 use Rattle.model.specs.Entries.{Entry, has, find}
 use Rattle.model.specs.Table.{Table, within, indexOf, lookup, getOf}
@@ -32,11 +31,6 @@ use Rattle.original.proofs.Right.{Placed, Lively, Right, right-array, r
 
 pub integer-known : (kinds : Kinds) (n : ℕ) → Known kinds (integer n)
 integer-known kinds n o = absurd (true≢false (sym o))
-
--- a key has a canonical form, or a refusal
-pub casek : {P : Type 0} (c : CanonicalKey) → ((k : Words) → c ≡ Key k → P) → ((n : ℕ) → c ≡ No n → P) → P
-casek (Key k) f g = f k refl
-casek (No n) f g = g n refl
 
 -- a canonical key is an Integer or the key itself
 pub key-known : (kinds : Kinds) (key k : Words) → Known kinds key → canonicalKey key ≡ Key k → Known kinds k
@@ -193,6 +187,6 @@ module _ (kinds : Kinds) where
   unfolding originalGet getOf lookup within
   original-get r key s n =
       rw (original-index key, original-key key)
-      (casek (canonicalKey key)
+      (by-key key
       (λ k e. rw (e, findCell-shown kinds (r .map) k (key-known kinds key k n e)))
       (λ m e. rw e))

@@ -10,19 +10,17 @@ use Rattle.value.specs.Encoding.{decodes}
 use Rattle.value.specs.Same.{same, nil, isNil}
 use Rattle.value.proofs.Cases.{caseb, clash, or-cases, or-right}
 use Rattle.value.proofs.Same.{same-eq, same-refl, eq-same}
-use Rattle.key.specs.declared.CanonicalKey.{CanonicalKey}
-use Rattle.key.specs.declared.CanonicalKey.the-variants.{Key, No}
+use Rattle.key.specs.declared.CanonicalKey.the-variants.{Key}
 use Rattle.key.specs.Canonical.{canonicalKey}
-use Rattle.key.proofs.Own.{canonical-own}
+use Rattle.key.proofs.Own.{by-key, canonical-own}
 use Rattle.model.specs.Entries.{Entry, entry, keysOf, member, distinct, has, find, put, Each, found, last, first}
 use Rattle.model.specs.Table.{Room, Table, within, pairs, lookup, getOf, nextOf}
 use Rattle.model.specs.Calls.{Outcome, setKey, setOf}
 use Rattle.model.specs.WellFormed.{Decodes, WellFormed}
 use Rattle.model.proofs.Entries.{put-keys, keys-append, has-append, find-append-has, find-append-not, find-absent, find-put, has-snoc, kept-entry}
 use Rattle.model.proofs.Array.{inside, has-pairs, find-pairs, pairs-writeArray, pairs-writeEntry}
-use Rattle.model.proofs.Map.{numbered}
+use Rattle.model.proofs.Map.{set-key, set-no-key, numbered}
 use Rattle.model.proofs.Kept.{setKey-kept}
-use Rattle.model.proofs.Refusals.{set-key, set-no-key}
 use Rattle.model.proofs.Next.{next-nil, next-after, get-key, pairs-apart, pair-canonical, has-middle, next-lists}
 use Rattle.walk.specs.History.{liveKeys}
 use Rattle.walk.proofs.Lists.{apart, keys-split, lastKey, last-snoc, last-entry, Passed, first-found, first-last}
@@ -123,7 +121,15 @@ module _ {room : Room} {t₀ t : Table} {allowed : List Words} {key : Words} {ha
   -- a set of Nil, or of a key that may be set
   pub was-set : (j v : Words) → Decodes v → ((k : Words) → canonicalKey j ≡ Key k → isNil v ≡ false → member allowed k ≡ true)
       → Inv room t₀ ((setOf room t j v) .table) allowed key handed (λ x. (isNil (getOf ((setOf room t j v) .table) x) ≡ false) × Through x)
-  was-set j v d may = go (canonicalKey j) refl
+  was-set j v d may =
+      by-key j
+      (λ k c. rw (set-key room t j v k c)
+      (caseb (has (pairs t) k)
+      (λ h. written k c h)
+      (λ h. caseb (isNil v)
+      (λ n. unchanged (set-absent w k v h n))
+      (λ n. clash (i .present k (may k c n)) h))))
+      (λ n c. unchanged (ap (λ (o : Outcome). o .table) (set-no-key room t j v n c)))
     where
       w : WellFormed room t
       w = i .wellFormed
@@ -140,16 +146,6 @@ module _ {room : Room} {t₀ t : Table} {allowed : List Words} {key : Words} {ha
           caseb (same k x)
           (λ e. subst (λ (y : Words). member allowed y ≡ true) (same-eq k x e) (may k c (rw e at g)))
           (λ e. i .settable x (rw e at g)))
-
-      go : (c : CanonicalKey) → canonicalKey j ≡ c → Inv room t₀ ((setOf room t j v) .table) allowed key handed (λ x. (isNil (getOf ((setOf room t j v) .table) x) ≡ false) × Through x)
-      go (No n) c = unchanged (ap (λ (o : Outcome). o .table) (set-no-key room t j v n c))
-      go (Key k) c =
-          rw (set-key room t j v k c)
-          (caseb (has (pairs t) k)
-          (λ h. written k c h)
-          (λ h. caseb (isNil v)
-          (λ n. unchanged (set-absent w k v h n))
-          (λ n. clash (i .present k (may k c n)) h)))
 
   -- ---- a step
   -- past pairs of Nil nothing is missed: a key with a value throughout that stands before them, or would be one of them, was handed out
