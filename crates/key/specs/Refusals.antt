@@ -9,6 +9,3 @@ keyIsNaN = 2
 
 abbrev pub noRoom : ℕ
 noRoom = 3
-
-abbrev pub wrongShape : ℕ
-wrongShape = 4

@@ -1,7 +1,8 @@
 -- The array part as pairs: which keys it has, and that get is a search of all pairs. Assumes nothing.
-use mathlib.Core.Path.{_≡_, sym, ap, _∙_}
+use mathlib.Core.Path.{_≡_, sym, ap, subst, _∙_}
 use mathlib.Core.Bool.{Bool, true, false, _&&_, _||_, true≢false}
 use mathlib.Core.List.{List, [], _∷_, _++_, append-assoc}
+use mathlib.Core.Logic.{inl, inr}
 use Prim.Native.Nat.{ℕ, zero, suc, _+_, _-_, _≤_, _<_}
 use native.Mathlib.Nat.{le-of-suc-le-suc, not-suc-le-zero}
 use native.Mathlib.Omega.{arith}
@@ -10,7 +11,7 @@ use lib.ListN.{length, getD, set}
 use borrow.Author.Tests.{leb-true, ltb-true, eqb-true, lt-ltb, le-leb}
 use Rattle.value.specs.declared.Words.{Words}
 use Rattle.value.specs.Same.{same, nil}
-use Rattle.value.proofs.Cases.{caseb, clash, and-left, and-right}
+use Rattle.value.proofs.Cases.{caseb, clash, and-left, and-right, or-cases}
 use Rattle.value.proofs.Same.{same-eq, eq-same, ne-same}
 use Rattle.key.specs.declared.ArrayIndex.the-variants.{At}
 use Rattle.key.specs.Canonical.{integer, largest, arrayIndex}
@@ -120,6 +121,14 @@ distinct-array (v ∷ vs) n = (
 pub has-pairs : (t : Table) (k : Words) → length (t .array) ≤ largest → has (pairs t) k ≡ (within (length (t .array)) k || has (t .entries) k)
 unfolding pairs
 has-pairs t k h = has-append (arrayPairs 0 (t .array)) (t .entries) k ∙ ap (λ (b : Bool). b || has (t .entries) k) (has-array-within (t .array) k h)
+
+-- what holds of Integers and of the entries' keys holds of every key
+pub key-of-pairs : (P : Words → Type 0) (t : Table) → length (t .array) ≤ largest → ((n : ℕ) → P (integer n)) → ((k : Words) → has (t .entries) k ≡ true → P k) → (k : Words) → has (pairs t) k ≡ true → P k
+key-of-pairs P t l f g k h =
+    elim (or-cases (within (length (t .array)) k) (has (t .entries) k) (sym (has-pairs t k l) ∙ h)) [
+      | inl e ↦ let r : Inside (length (t .array)) k = inside (length (t .array)) k e in subst P (sym (r .is)) (f (suc (r .i)))
+      | inr e ↦ g k e
+    ]
 
 pub lookup-array : (t : Table) (k : Words) (i : ℕ) → arrayIndex k ≡ At i → i < length (t .array) → lookup t k ≡ getD (t .array) i nil
 unfolding lookup within

@@ -3,33 +3,27 @@
 use mathlib.Core.Path.{_≡_, refl, sym, ap, subst, _∙_}
 use mathlib.Core.Bool.{true, false, not}
 use mathlib.Core.List.{List, [], _∷_, _++_, append-assoc}
-use mathlib.Core.Logic.{_⊎_, inl, inr}
-use Prim.Native.Nat.{ℕ, suc}
+use Prim.Native.Nat.{ℕ}
 use native.Mathlib.Omega.{arith}
-use lib.ListN.{length}
 use Rattle.value.specs.declared.Words.{Words}
 use Rattle.value.specs.Same.{same, nil, isNil}
-use Rattle.value.proofs.Cases.{caseb, clash, or-cases, or-right}
+use Rattle.value.proofs.Cases.{caseb, clash, or-right}
 use Rattle.value.proofs.Same.{same-eq, same-refl, ne-same, not-live}
 use Rattle.key.specs.declared.CanonicalKey.the-variants.{Key}
 use Rattle.key.specs.Canonical.{canonicalKey}
 use Rattle.key.proofs.Own.{canonical-integer}
 use Rattle.model.specs.Entries.{Entry, entry, keysOf, distinct, has, find, keep, live, NextValue, first, from}
-use Rattle.model.specs.Table.{Room, Table, within, pairs, lookup, getOf, nextOf}
+use Rattle.model.specs.Table.{Room, Table, pairs, lookup, getOf, nextOf}
 use Rattle.model.specs.WellFormed.{WellFormed}
 use Rattle.model.specs.Manual.{Lists, end, more, PairsOf}
 use Rattle.model.proofs.Entries.{has-append, has-keep, find-keep, distinct-keep}
-use Rattle.model.proofs.Array.{Inside, inside, has-pairs, find-pairs, distinct-pairs}
+use Rattle.model.proofs.Array.{key-of-pairs, find-pairs, distinct-pairs}
 use Rattle.model.proofs.Map.{numbered}
 
--- ---- the calls at Nil and at a canonical key
+-- ---- next at Nil, and get at a key
 pub next-nil : (t : Table) → nextOf t nil ≡ first (pairs t)
 unfolding nextOf canonicalKey
 next-nil t = refl
-
-pub next-key : (t : Table) (k : Words) → canonicalKey k ≡ Key k → nextOf t k ≡ from (pairs t) k
-unfolding nextOf
-next-key t k c = rw c
 
 pub get-key : (t : Table) (key k : Words) → canonicalKey key ≡ Key k → getOf t key ≡ lookup t k
 unfolding getOf
@@ -40,11 +34,7 @@ pub pairs-apart : {room : Room} {t : Table} → WellFormed room t → distinct (
 pairs-apart {t = t} w = distinct-pairs t (numbered w) (w .apart) (w .outside)
 
 pub pair-canonical : {room : Room} {t : Table} (k : Words) → WellFormed room t → has (pairs t) k ≡ true → canonicalKey k ≡ Key k
-pair-canonical {t = t} k w h = go (or-cases (within (length (t .array)) k) (has (t .entries) k) (sym (has-pairs t k (numbered w)) ∙ h))
-  where
-    go : (within (length (t .array)) k ≡ true) ⊎ (has (t .entries) k ≡ true) → canonicalKey k ≡ Key k
-    go (inl e) = let r : Inside (length (t .array)) k = inside (length (t .array)) k e in rw (r .is) (canonical-integer (suc (r .i)))
-    go (inr e) = w .canonical k e
+pair-canonical {t = t} k w h = key-of-pairs (λ x. canonicalKey x ≡ Key x) t (numbered w) canonical-integer (w .canonical) k h
 
 -- ---- a list walked from its start
 pub has-middle : (pre : List Entry) (s : Entry) (post : List Entry) → has (pre ++ (s ∷ post)) (s .key) ≡ true
@@ -57,21 +47,28 @@ from-middle (x ∷ pre) s post d =
     let n : same (x .key) (s .key) ≡ false = ne-same (x .key) (s .key) (λ p. clash (subst (λ (y : Words). has (pre ++ (s ∷ post)) y ≡ true) (sym p) (has-middle pre s post)) (d .0))
     in rw n (from-middle pre s post (d .1))
 
--- a `next` that goes through a list of pairs lists those with a value: at the start its first, and at each key of the list the first after it
-pub lists : (next : Words → NextValue) (l : List Entry) → ((pre : List Entry) (s : Entry) (post : List Entry) → pre ++ (s ∷ post) ≡ l → next (s .key) ≡ first post)
-    → (post pre : List Entry) → pre ++ post ≡ l → (key : Words) → next key ≡ first post → Lists next key (keep live post)
-lists next l after [] pre q key h = end h
-lists next l after (s ∷ post) pre q key h =
-    let q′ : (pre ++ (s ∷ [])) ++ post ≡ l = append-assoc pre (s ∷ []) post ∙ q in
-    caseb (isNil (s .value))
-    (λ b. rw b (lists next l after post (pre ++ (s ∷ [])) q′ key (rw b at h)))
-    (λ b. rw b (more (s .key) (s .value) (rw b at h) (lists next l after post (pre ++ (s ∷ [])) q′ (s .key) (after pre s post q))))
+-- a `next` that goes through a list of pairs: at the start its first with a value, and from each key of the list the first after it
+module _ (next : Words → NextValue) (l : List Entry) (once : distinct (keysOf l)) (goes : (k : Words) → has l k ≡ true → next k ≡ from l k) where
+  pub after-key : (pre : List Entry) (s : Entry) (post : List Entry) → pre ++ (s ∷ post) ≡ l → next (s .key) ≡ first post
+  after-key pre s post q =
+      goes (s .key) (subst (λ (m : List Entry). has m (s .key) ≡ true) q (has-middle pre s post))
+      ∙ subst (λ (m : List Entry). from m (s .key) ≡ first post) q (from-middle pre s post (subst (λ (m : List Entry). distinct (keysOf m)) (sym q) once))
 
--- after a pair of a well-formed table comes the first with a value behind it
-pub next-after : {room : Room} (t : Table) → WellFormed room t → (pre : List Entry) (s : Entry) (post : List Entry) → pre ++ (s ∷ post) ≡ pairs t → nextOf t (s .key) ≡ first post
-next-after t w pre s post q =
-    next-key t (s .key) (pair-canonical (s .key) w (subst (λ (l : List Entry). has l (s .key) ≡ true) q (has-middle pre s post)))
-    ∙ subst (λ (l : List Entry). from l (s .key) ≡ first post) q (from-middle pre s post (subst (λ (l : List Entry). distinct (keysOf l)) (sym q) (pairs-apart w)))
+  lists-from : (post pre : List Entry) → pre ++ post ≡ l → (key : Words) → next key ≡ first post → Lists next key (keep live post)
+  lists-from [] pre q key h = end h
+  lists-from (s ∷ post) pre q key h =
+      let q′ : (pre ++ (s ∷ [])) ++ post ≡ l = append-assoc pre (s ∷ []) post ∙ q in
+      caseb (isNil (s .value))
+      (λ b. rw b (lists-from post (pre ++ (s ∷ [])) q′ key (rw b at h)))
+      (λ b. rw b (more (s .key) (s .value) (rw b at h) (lists-from post (pre ++ (s ∷ [])) q′ (s .key) (after-key pre s post q))))
+
+  -- it lists the pairs with a value
+  pub lists : next nil ≡ first l → Lists next nil (keep live l)
+  lists h = lists-from l [] refl nil h
+
+pub next-there : {room : Room} (t : Table) → WellFormed room t → (k : Words) → has (pairs t) k ≡ true → nextOf t k ≡ from (pairs t) k
+unfolding nextOf
+next-there t w k h = rw (pair-canonical k w h)
 
 -- what a walk lists is determined
 pub lists-one : (next : Words → NextValue) {key : Words} {l m : List Entry} → Lists next key l → Lists next key m → l ≡ m
@@ -106,6 +103,6 @@ live-pairs value l d h =
 
 pub next-lists : {room : Room} (t : Table) → WellFormed room t → Lists (nextOf t) nil (keep live (pairs t)) × PairsOf (lookup t) (keep live (pairs t))
 next-lists t w = (
-  lists (nextOf t) (pairs t) (next-after t w) (pairs t) [] refl nil (next-nil t),
+  lists (nextOf t) (pairs t) (pairs-apart w) (next-there t w) (next-nil t),
   live-pairs (lookup t) (pairs t) (pairs-apart w) (λ k. find-pairs t k (numbered w)),
 )

@@ -1,9 +1,8 @@
 -- A walk of the original's by `next` lists the pairs of its view, so after the same calls the two walks list the same pairs, each once,
 -- whatever their order. Assumes nothing.
-use mathlib.Core.Path.{_≡_, refl, sym, ap, subst, _∙_}
+use mathlib.Core.Path.{_≡_, refl, sym, ap, _∙_}
 use mathlib.Core.Bool.{true, false, not, true≢false}
 use mathlib.Core.List.{List, [], _∷_, _++_}
-use mathlib.Core.Logic.{inl, inr}
 use Prim.Native.Nat.{ℕ, zero, suc, _+_, _<_}
 use native.Mathlib.Nat.{le-of-suc-le-suc, not-suc-le-zero}
 use native.Mathlib.Omega.{arith}
@@ -11,7 +10,7 @@ use lib.Dec.{eqb}
 use lib.ListN.{length, drop}
 use Rattle.value.specs.declared.Words.{Words}
 use Rattle.value.specs.Same.{same, nil, isNil}
-use Rattle.value.proofs.Cases.{caseb, or-cases}
+use Rattle.value.proofs.Cases.{caseb}
 use Rattle.key.specs.declared.CanonicalKey.the-variants.{Key}
 use Rattle.key.specs.Canonical.{integer, canonicalKey}
 use Rattle.key.proofs.Own.{canonical-integer}
@@ -19,8 +18,8 @@ use Rattle.key.proofs.Original.{original-key, original-index}
 use Rattle.model.specs.Entries.{Entry, keysOf, distinct, has, keep, live, Each, first, from}
 use Rattle.model.specs.Table.{within, arrayPairs, pairs, lookup}
 use Rattle.model.specs.Manual.{Lists, PairsOf}
-use Rattle.model.proofs.Array.{is-first, not-first, next-place, Inside, inside, has-array-within, has-pairs, find-pairs, distinct-pairs}
-use Rattle.model.proofs.Next.{has-middle, from-middle, lists, live-pairs}
+use Rattle.model.proofs.Array.{is-first, not-first, next-place, Inside, inside, has-array-within, key-of-pairs, find-pairs, distinct-pairs}
+use Rattle.model.proofs.Next.{lists, live-pairs}
 use Rattle.original.specs.Original.{Cell, Original, foundAt, firstCell, fromCell, firstPair, originalNext}
 use Rattle.original.specs.Runs.{Kinds, Known}
 use Rattle.original.specs.Agreement.{SamePairs}
@@ -60,11 +59,11 @@ module _ (kinds : Kinds) where
   fromCell-shown (c ∷ cs) k n a = rw (matches-shown kinds (c .key) k n, firstCell-shown cs (a .1), fromCell-shown cs k n (a .1))
 
   -- ---- next, through all pairs of the view
-  pub original-first : (r : Original) → Right kinds r → originalNext r nil ≡ first (pairs (view kinds r))
+  original-first : (r : Original) → Right kinds r → originalNext r nil ≡ first (pairs (view kinds r))
   unfolding originalNext canonicalKey pairs
   original-first r s = rw (original-index nil) (firstPair-shown (arrayPairs 0 (r .array)) (r .map) (s .lively))
 
-  pub original-from : (r : Original) (k : Words) → Right kinds r → canonicalKey k ≡ Key k → Known kinds k → originalNext r k ≡ from (pairs (view kinds r)) k
+  original-from : (r : Original) (k : Words) → Right kinds r → canonicalKey k ≡ Key k → Known kinds k → originalNext r k ≡ from (pairs (view kinds r)) k
   unfolding originalNext pairs within
   original-from r k s c n =
       rw (original-index k, original-key k, c)
@@ -77,23 +76,15 @@ module _ (kinds : Kinds) where
 
   -- a key of the view is canonical and known
   pair-key : (r : Original) (k : Words) → Right kinds r → has (pairs (view kinds r)) k ≡ true → (canonicalKey k ≡ Key k) × Known kinds k
-  pair-key r k s h = elim (or-cases (within (length (r .array)) k) (has (cells kinds (r .map)) k) (sym (has-pairs (view kinds r) k (numbered kinds r s)) ∙ h)) [
-    | inl e ↦ let x : Inside (length (r .array)) k = inside (length (r .array)) k e in rw (x .is) (canonical-integer (suc (x .i)), integer-known kinds (suc (x .i)))
-    | inr e ↦ (s .placed k e .canonical, s .placed k e .known)
-  ]
+  pair-key r k s h =
+      key-of-pairs (λ x. (canonicalKey x ≡ Key x) × Known kinds x) (view kinds r) (numbered kinds r s) (λ n. (canonical-integer n, integer-known kinds n)) (λ x e. (s .placed x e .canonical, s .placed x e .known)) k h
 
   pairs-once : (r : Original) → Right kinds r → distinct (keysOf (pairs (view kinds r)))
   pairs-once r s = distinct-pairs (view kinds r) (numbered kinds r s) (s .apart) (λ k h. s .placed k h .outside)
 
-  original-after : (r : Original) → Right kinds r → (pre : List Entry) (x : Entry) (post : List Entry) → pre ++ (x ∷ post) ≡ pairs (view kinds r) → originalNext r (x .key) ≡ first post
-  original-after r s pre x post q =
-      let is : (canonicalKey (x .key) ≡ Key (x .key)) × Known kinds (x .key) = pair-key r (x .key) s (subst (λ (l : List Entry). has l (x .key) ≡ true) q (has-middle pre x post)) in
-      original-from r (x .key) s (is .0) (is .1)
-      ∙ subst (λ (l : List Entry). from l (x .key) ≡ first post) q (from-middle pre x post (subst (λ (l : List Entry). distinct (keysOf l)) (sym q) (pairs-once r s)))
-
   pub original-lists : (r : Original) → Right kinds r → Lists (originalNext r) nil (keep live (pairs (view kinds r))) × PairsOf (lookup (view kinds r)) (keep live (pairs (view kinds r)))
   original-lists r s = (
-    lists (originalNext r) (pairs (view kinds r)) (original-after r s) (pairs (view kinds r)) [] refl nil (original-first r s),
+    lists (originalNext r) (pairs (view kinds r)) (pairs-once r s) (λ k h. original-from r k s (pair-key r k s h .0) (pair-key r k s h .1)) (original-first r s),
     live-pairs (lookup (view kinds r)) (pairs (view kinds r)) (pairs-once r s) (λ k. find-pairs (view kinds r) k (numbered kinds r s)),
   )
 

@@ -1,5 +1,5 @@
 -- Tests taken apart: a Bool is true or false, and a conjunction or disjunction is its parts. Assumes nothing.
-use mathlib.Core.Path.{_≡_, refl, sym, subst, _∙_}
+use mathlib.Core.Path.{_≡_, refl, sym, _∙_}
 use mathlib.Core.Bool.{Bool, true, false, _&&_, _||_, true≢false}
 use mathlib.Core.Logic.{_⊎_, inl, inr}
 use lib.Dec.{T}
@@ -14,9 +14,6 @@ clash p q = absurd (true≢false (sym p ∙ q))
 pub T→true : (b : Bool) → T b → b ≡ true
 T→true true t = refl
 T→true false t = absurd t
-
-pub true→T : (b : Bool) → b ≡ true → T b
-true→T b e = subst T (sym e) tt
 
 pub and-left : (a b : Bool) → (a && b) ≡ true → a ≡ true
 and-left true b t = refl

@@ -18,10 +18,10 @@ use Rattle.model.specs.Table.{Room, Table, within, pairs, lookup, getOf, nextOf
 use Rattle.model.specs.Calls.{Outcome, setKey, setOf}
 use Rattle.model.specs.WellFormed.{Decodes, WellFormed}
 use Rattle.model.proofs.Entries.{put-keys, keys-append, has-append, find-append-has, find-append-not, find-absent, find-put, has-snoc, kept-entry}
-use Rattle.model.proofs.Array.{inside, has-pairs, find-pairs, pairs-writeArray, pairs-writeEntry}
+use Rattle.model.proofs.Array.{has-pairs, key-of-pairs, find-pairs, pairs-writeArray, pairs-writeEntry}
 use Rattle.model.proofs.Map.{set-key, set-no-key, numbered}
 use Rattle.model.proofs.Kept.{setKey-kept}
-use Rattle.model.proofs.Next.{next-nil, next-after, get-key, pairs-apart, pair-canonical, has-middle, next-lists}
+use Rattle.model.proofs.Next.{next-nil, next-there, after-key, get-key, pairs-apart, pair-canonical, has-middle, next-lists}
 use Rattle.walk.specs.History.{liveKeys}
 use Rattle.walk.proofs.Lists.{apart, keys-split, lastKey, last-snoc, last-entry, Passed, first-found, first-last}
 
@@ -57,7 +57,7 @@ module _ {room : Room} {t : Table} (w : WellFormed room t) where
   next-standing (s ∷ ss) after q =
       let r : (l : List Entry) × (x : Entry) × (s ∷ ss ≡ l ++ (x ∷ [])) × (x .key ≡ lastKey (s .key) (keysOf ss)) = last-entry s ss in
       let p : pairs t ≡ r .0 ++ (r .1 ∷ after) = q ∙ ap (λ (l : List Entry). l ++ after) (r .2) ∙ append-assoc (r .0) (r .1 ∷ []) after in
-      subst (λ (k : Words). nextOf t k ≡ first after) (r .3) (next-after t w (r .0) (r .1) after (sym p))
+      subst (λ (k : Words). nextOf t k ≡ first after) (r .3) (after-key (nextOf t) (pairs t) (pairs-apart w) (next-there t w) (r .0) (r .1) after (sym p))
 
   pub value-there : (k : Words) → isNil (lookup t k) ≡ false → has (pairs t) k ≡ true
   value-there k n =
@@ -66,11 +66,7 @@ module _ {room : Room} {t : Table} (w : WellFormed room t) where
 
   pair-decodes : (k : Words) → has (pairs t) k ≡ true → Decodes k
   unfolding decodes
-  pair-decodes k h = go (or-cases (within (length (t .array)) k) (has (t .entries) k) (sym (has-pairs t k (numbered w)) ∙ h))
-    where
-      go : (within (length (t .array)) k ≡ true) ⊎ (has (t .entries) k ≡ true) → Decodes k
-      go (inl e) = rw (inside (length (t .array)) k e .is) refl
-      go (inr e) = entry-decodes (t .entries) k (w .entriesDecode) e
+  pair-decodes k h = key-of-pairs Decodes t (numbered w) (λ n. refl) (λ x. entry-decodes (t .entries) x (w .entriesDecode)) k h
 
   -- a set of a key that is there writes that pair; a set of Nil elsewhere changes nothing
   set-there : (k v : Words) → has (pairs t) k ≡ true → pairs ((setKey room t k v) .table) ≡ put (pairs t) k v
