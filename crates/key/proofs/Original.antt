@@ -4,7 +4,7 @@ use mathlib.Core.Bool.{Bool, true, false, _&&_, _||_, cond, Bool·beq, and-true,
 use Prim.Native.Nat.{ℕ, zero, suc, _+_, _-_, _*_, _/_, _%_, _^_, _≤_, _<_, min}
 use native.Mathlib.Nat.{zero-mul, mul-one, mul-assoc, div-one, div-le-self, le-trans, lt-of-le-of-lt, mul-le-mul-right, div-add-mod', mul-div-cancel, zero-lt-suc}
 use native.Mathlib.Omega.{arith}
-use borrow.Author.Tests.{eq-eqb, ne-eqb, eqb-true, eqb-false, leb-true, leb-false}
+use borrow.Author.Tests.{eq-eqb, ne-eqb, eqb-true, eqb-false, leb-true, leb-false, ltb-true, ltb-false, lt-ltb, le-leb, lt-leb}
 use lib.Dec.{T, eqb, leb, ltb, lit<, ltb→lt, lit≤}
 use lib.Pow.{pow-add, pow-pos}
 use lib.IntN.{ℤ, pos, negsuc, negℤ}
@@ -14,16 +14,17 @@ use lib.Ieee.Exact.{HasValue, round-exact}
 use lib.Ieee.Back.{round-whole}
 use lib.Ieee.Fits.{down-pos, and-l, and-r}
 use mir.Syntax.{w64}
-use mir.Val.{ofZ}
+use mir.Val.{SFits, ofZ, toZ}
+use mir.Facts.{toZ-ofZ}
 use Rattle.value.specs.declared.Words.{Words}
-use Rattle.value.proofs.Cases.{caseb, clash, iff, and-left, and-right}
+use Rattle.value.proofs.Cases.{caseb, clash, never, iff, and-left, and-right}
 use Rattle.key.specs.Refusals.{keyIsNaN}
 use Rattle.key.specs.Canonical.{integer, number, largest, wholeOf, wholeKey, keyOf, numberKey, canonicalKey, onKey, arrayIndex}
-use Rattle.key.specs.Original.{f64ToI64, canonicalFloatBytes, originalNumberKey, originalKey, originalIndex}
+use Rattle.key.specs.Original.{f64ToI64, fromI64, canonicalFloatBytes, originalNumberKey, originalKey, originalIndex}
 use Rattle.key.specs.declared.Whole.{Whole}
 use Rattle.key.specs.declared.Whole.the-variants.{Is, Not}
 use Rattle.key.specs.declared.CanonicalKey.the-variants.{Key, No}
-use Rattle.key.specs.declared.ArrayIndex.the-variants.{Nothing}
+use Rattle.key.specs.declared.ArrayIndex.the-variants.{At, Nothing}
 use Rattle.key.proofs.Ratios.{of-value, over-one, Small, small}
 use Rattle.key.proofs.Equal.{eq-values}
 
@@ -158,7 +159,7 @@ bytes (inf s) b h = refl
 bytes (fin s m e) b h =
     caseb (eq (fin s m e) (fin false 0 (pos 0)))
     (λ t. let k : wholeOf (fin s m e) ≡ Is s 0 = of-value (fin s m e) s 0 1 (zero-lt-suc 0) (refl, eqb-true _ _ (and-left _ _ t)) ∙ over-one s 0 (lit≤ tt) in
-    let z : _≡_ {A = ℕ} 0 1 = cc in absurd (omega arith))
+    never (cc))
     (λ t. rw t)
 
 number-key : (b : ℕ) → originalNumberKey (ofBits binary64 b) b ≡ numberKey b
@@ -186,17 +187,33 @@ nan-not nan t = refl
 nan-not (inf s) t = clash t refl
 nan-not (fin s m e) t = clash t refl
 
-number-index : (b : ℕ) → f64ToI64 (ofBits binary64 b) (λ (i : ℤ). arrayIndex (integer (ofZ w64 i))) Nothing ≡ onKey (numberKey b) (λ (n : ℕ). Nothing) arrayIndex
+integer-index : (p : ℕ) → fromI64 (toZ w64 p) ≡ arrayIndex (integer p)
+unfolding arrayIndex
+integer-index zero = refl
+integer-index (suc p) =
+    caseb (ltb (suc p) (2 ^ 63))
+    (λ t. let l : leb (suc p) largest ≡ true = le-leb (suc p) largest (omega (arith, ltb-true (suc p) (2 ^ 63) t)) in rw (t, l, lt-ltb 0 (suc p) (zero-lt-suc p)) (ap At (omega arith)))
+    (λ t. let l : leb (suc p) largest ≡ false = lt-leb (suc p) largest (omega (arith, ltb-false (suc p) (2 ^ 63) t)) in rw (t, l, lt-ltb 0 (suc p) (zero-lt-suc p)))
+
+signed-fits : (s : Bool) (n : ℕ) → n ≤ 2 ^ 63 → SFits w64 (signed s n)
+signed-fits true zero l = record { sfits = lit< tt }
+signed-fits true (suc n) l = record { sfits = l }
+signed-fits false n l = record { sfits = omega arith }
+
+signed-index : (s : Bool) (n : ℕ) → n ≤ 2 ^ 63 → fromI64 (signed s n) ≡ arrayIndex (wholeKey s n)
+signed-index s n l = ap fromI64 (sym (toZ-ofZ (signed-fits s n l))) ∙ integer-index (ofZ w64 (signed s n)) ∙ ap arrayIndex (signed-key s n l)
+
+number-index : (b : ℕ) → f64ToI64 (ofBits binary64 b) fromI64 Nothing ≡ onKey (numberKey b) (λ (n : ℕ). Nothing) arrayIndex
 unfolding numberKey arrayIndex
 number-index b =
-    to-integer x (λ (i : ℤ). arrayIndex (integer (ofZ w64 i))) Nothing (ofBits-fits binary64 b)
+    to-integer x fromI64 Nothing (ofBits-fits binary64 b)
     ∙ caseb (nanBits binary64 b) (λ t. rw (t, nan-not x (sym (nanBits-is binary64 b) ∙ t))) (λ t. rw t (go (wholeOf x) (small x)))
   where
     x : Float
     x = ofBits binary64 b
 
-    go : (w : Whole) → Small w → onWhole w (λ (i : ℤ). arrayIndex (integer (ofZ w64 i))) Nothing ≡ arrayIndex (keyOf b w)
-    go (Is s n) l = ap arrayIndex (signed-key s n l)
+    go : (w : Whole) → Small w → onWhole w fromI64 Nothing ≡ arrayIndex (keyOf b w)
+    go (Is s n) l = signed-index s n l
     go Not l = refl
 
 -- the array index of the canonical key is the original's to_array_index of the value
@@ -207,4 +224,4 @@ original-index w =
     (λ t. let p : w .kind ≡ 0 = eqb-true (w .kind) 0 t in rw p)
     (λ t. caseb (eqb (w .kind) 3)
     (λ u. let p : w .kind ≡ 3 = eqb-true (w .kind) 3 u in rw p (number-index (w .payload)))
-    (λ u. rw (t, u) (caseb (eqb (w .kind) 2) (λ v. rw v) (λ v. unfold arrayIndex in rw v))))
+    (λ u. rw (t, u) (caseb (eqb (w .kind) 2) (λ v. unfold arrayIndex in rw v (integer-index (w .payload))) (λ v. unfold arrayIndex in rw v))))

@@ -4,13 +4,12 @@ use mathlib.Core.Path.{_≡_, refl, sym, ap}
 use mathlib.Core.Bool.{true, false}
 use mathlib.Core.Logic.{_⊎_, inl, inr}
 use Prim.Native.Nat.{ℕ, _-_, _%_, _^_}
-use native.Mathlib.Omega.{arith}
 use borrow.Author.Tests.{eqb-true, eq-eqb}
 use lib.Dec.{eqb}
 use lib.Ieee.{binary64, ofBits, nanBits}
 use Rattle.value.specs.declared.Words.{Words}
 use Rattle.value.specs.Encoding.{words, decodes}
-use Rattle.value.proofs.Cases.{caseb}
+use Rattle.value.proofs.Cases.{caseb, never}
 use Rattle.key.specs.declared.Whole.{Whole}
 use Rattle.key.specs.declared.Whole.the-variants.{Is, Not}
 use Rattle.key.specs.declared.CanonicalKey.{CanonicalKey}
@@ -59,8 +58,8 @@ by-key w f g = go (canonicalKey w) f g
 -- a key that has a canonical form goes by one of two ways
 pub key-ways : (w k : Words) → canonicalKey w ≡ Key k → ((n : ℕ) × (k ≡ integer n)) ⊎ ((k ≡ w) × (canonicalKey w ≡ Key w))
 key-ways w k e = elim (ways w) [
-  | inl a ↦ let z : _≡_ {A = ℕ} 0 1 = cc in absurd (omega arith)
-  | inr (inl a) ↦ let z : _≡_ {A = ℕ} 0 1 = cc in absurd (omega arith)
+  | inl a ↦ never (cc)
+  | inr (inl a) ↦ never (cc)
   | inr (inr (inl a)) ↦ inl (a .0, cc)
   | inr (inr (inr a)) ↦ inr (cc, a)
 ]
@@ -79,8 +78,8 @@ pub no-key : (w : Words) (n : ℕ) → canonicalKey w ≡ No n → ((w .kind ≡
 no-key w n e = elim (ways w) [
   | inl a ↦ inl (a .0, cc)
   | inr (inl a) ↦ inr (a .0, a .1, cc)
-  | inr (inr (inl a)) ↦ let z : _≡_ {A = ℕ} 0 1 = cc in absurd (omega arith)
-  | inr (inr (inr a)) ↦ let z : _≡_ {A = ℕ} 0 1 = cc in absurd (omega arith)
+  | inr (inr (inl a)) ↦ never (cc)
+  | inr (inr (inr a)) ↦ never (cc)
 ]
 
 pub nil-no-key : (w : Words) → w .kind ≡ 0 → canonicalKey w ≡ No keyIsNil

@@ -9,7 +9,7 @@ use lib.Ieee.{Float, fin, binary64, ofBits, eq}
 use lib.Ieee.Exact.{HasValue}
 use Rattle.value.specs.declared.Words.{Words}
 use Rattle.value.specs.Same.{same}
-use Rattle.key.specs.Canonical.{number, wholeKey}
+use Rattle.key.specs.Canonical.{integer, number, largest, wholeKey}
 
 abbrev pub isNumber : Words → Bool
 isNumber v = eqb (v .kind) 2 || eqb (v .kind) 3
@@ -28,6 +28,10 @@ rawEqual u v = cond (isNumber u && isNumber v) (eq (exact u) (exact v)) (same u 
 -- the one Number whose key is an Integer that it is not equal to: 2 ^ 63
 abbrev pub saturates : Words → Bool
 saturates v = same v (number 0x43e0000000000000)
+
+-- the only two values that are one key though they are not equal: that Number and the largest Integer
+abbrev pub exception : Words → Words → Bool
+exception u v = (saturates u && same v (integer largest)) || (saturates v && same u (integer largest))
 
 -- the whole number ±size that the Number with the bits b is equal to, and whose key is k
 pub record IsInteger (b : ℕ) (k : Words) : Type 0 where

@@ -16,7 +16,7 @@ use Rattle.value.proofs.Same.{same-eq, eq-same, ne-same}
 use Rattle.key.specs.declared.ArrayIndex.the-variants.{At}
 use Rattle.key.specs.Canonical.{integer, largest, arrayIndex}
 use Rattle.model.specs.Entries.{Entry, entry, keysOf, has, find, put, distinct}
-use Rattle.model.specs.Table.{Table, offset, within, indexOf, arrayPairs, pairs, lookup}
+use Rattle.model.specs.Table.{Table, offset, within, placeOf, arrayPairs, pairs, lookup}
 use Rattle.model.specs.Calls.{writeArray, writeEntry, append}
 use Rattle.model.proofs.Entries.{has-append, find-append-has, find-append-not, put-append-has, put-append-not, keys-append, distinct-append, find-absent}
 
@@ -134,7 +134,7 @@ pub lookup-array : (t : Table) (k : Words) (i : ℕ) → arrayIndex k ≡ At i �
 unfolding lookup within
 lookup-array t k i p h = rw (p, lt-ltb i (length (t .array)) h)
 
-pub lookup-within : (t : Table) (k : Words) → within (length (t .array)) k ≡ true → lookup t k ≡ getD (t .array) (indexOf k) nil
+pub lookup-within : (t : Table) (k : Words) → within (length (t .array)) k ≡ true → lookup t k ≡ getD (t .array) (placeOf k) nil
 unfolding lookup
 lookup-within t k e = rw e
 

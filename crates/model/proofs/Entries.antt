@@ -1,12 +1,12 @@
 -- Laws of lists of entries: search, write, append, and what is kept. Assumes nothing.
 use mathlib.Core.Path.{_≡_, refl, sym, ap, subst, _∙_}
 use mathlib.Core.Bool.{Bool, true, false, cond, _||_, true≢false}
-use mathlib.Core.List.{List, [], _∷_, _++_}
+use mathlib.Core.List.{List, [], _∷_, _++_, map, map-append}
 use mathlib.Core.Logic.{_⊎_, inl, inr}
 use Prim.Native.Nat.{ℕ, zero, suc, _+_, _≤_, _<_}
 use native.Mathlib.Nat.{le-of-suc-le-suc, not-suc-le-zero}
 use native.Mathlib.Omega.{arith}
-use lib.ListN.{length, getD, set}
+use lib.ListN.{length, getD, set, length-map}
 use Rattle.value.specs.declared.Words.{Words}
 use Rattle.value.specs.Same.{same, nil}
 use Rattle.value.proofs.Cases.{caseb, clash, or-right}
@@ -14,22 +14,24 @@ use Rattle.value.proofs.Same.{same-eq, same-refl, ne-same, same-sym}
 use Rattle.model.specs.Entries.{Entry, entry, keysOf, member, distinct, has, find, put, keep, Each}
 use Rattle.model.specs.Growth.{tabulate}
 
+-- a map with v at k
+abbrev pub updated : (Words → Words) → Words → Words → Words → Words
+updated m k v j = cond (same k j) v (m j)
+
 -- ---- a write keeps the keys
 pub put-keys : (l : List Entry) (k v : Words) → keysOf (put l k v) ≡ keysOf l
 put-keys [] k v = refl
 put-keys (s ∷ ss) k v = caseb (same (s .key) k) (λ e. rw e) (λ e. rw (e, put-keys ss k v))
 
 pub length-keys : (l : List Entry) → length (keysOf l) ≡ length l
-length-keys [] = refl
-length-keys (s ∷ ss) = ap suc (length-keys ss)
+length-keys l = length-map l (λ (s : Entry). s .key)
 
 pub length-put : (l : List Entry) (k v : Words) → length (put l k v) ≡ length l
 length-put l k v = sym (length-keys (put l k v)) ∙ ap length (put-keys l k v) ∙ length-keys l
 
 -- ---- lists joined
 pub keys-append : (l m : List Entry) → keysOf (l ++ m) ≡ keysOf l ++ keysOf m
-keys-append [] m = refl
-keys-append (s ∷ ss) m = rw (keys-append ss m)
+keys-append l m = map-append (λ (s : Entry). s .key) l m
 
 pub member-append : (l m : List Words) (k : Words) → member (l ++ m) k ≡ (member l k || member m k)
 member-append [] m k = refl
@@ -63,7 +65,7 @@ pub find-absent : (l : List Entry) (k : Words) → has l k ≡ false → find l 
 find-absent [] k h = refl
 find-absent (s ∷ ss) k h = caseb (same (s .key) k) (λ e. absurd (true≢false (rw e at h))) (λ e. rw e (find-absent ss k (rw e at h)))
 
-pub find-put : (l : List Entry) (k v j : Words) → has l k ≡ true → find (put l k v) j ≡ cond (same k j) v (find l j)
+pub find-put : (l : List Entry) (k v j : Words) → has l k ≡ true → find (put l k v) j ≡ updated (find l) k v j
 find-put [] k v j h = absurd (true≢false (sym h))
 find-put (s ∷ ss) k v j h =
     caseb (same (s .key) k)
@@ -72,7 +74,7 @@ find-put (s ∷ ss) k v j h =
     (λ b. let d : same k j ≡ false = same-sym j k (subst (λ (x : Words). same x k ≡ false) (same-eq (s .key) j b) e) in rw (b, d))
     (λ b. rw b (find-put ss k v j (rw e at h)))))
 
-pub find-snoc : (l : List Entry) (k v j : Words) → has l k ≡ false → find (l ++ (entry k v ∷ [])) j ≡ cond (same k j) v (find l j)
+pub find-snoc : (l : List Entry) (k v j : Words) → has l k ≡ false → find (l ++ (entry k v ∷ [])) j ≡ updated (find l) k v j
 find-snoc l k v j h =
     caseb (has l j)
     (λ b. let d : same k j ≡ false = ne-same k j (λ p. clash b (subst (λ (x : Words). has l x ≡ false) p h)) in rw d (find-append-has l (entry k v ∷ []) j b))
@@ -112,7 +114,7 @@ kept-entry p (s ∷ ss) k h =
     (λ e. let r : (x : Entry) × (x .key ≡ k) × (p x ≡ true) × (has ss k ≡ true) = kept-entry p ss k (rw (b, e) at h) in (r .0, r .1, r .2, rw e (r .3))))
     (λ b. let r : (x : Entry) × (x .key ≡ k) × (p x ≡ true) × (has ss k ≡ true) = kept-entry p ss k (rw b at h) in (r .0, r .1, r .2, or-right (same (s .key) k) (has ss k) (r .3)))
 
-pub length-keep : (p : Entry → Bool) (l : List Entry) → length (keep p l) ≤ length l
+pub length-keep : {X : Type 0} (p : X → Bool) (l : List X) → length (keep p l) ≤ length l
 length-keep p [] = omega arith
 length-keep p (s ∷ ss) = let h : length (keep p ss) ≤ length ss = length-keep p ss in caseb (p s) (λ e. rw e (omega arith)) (λ e. rw e (omega arith))
 
@@ -143,9 +145,19 @@ pub each-append : {X : Type 0} (P : X → Type 0) (l m : List X) → Each P l �
 each-append P [] m a b = b
 each-append P (x ∷ xs) m a b = (a .0, each-append P xs m (a .1) b)
 
-pub each-keep : (P : Entry → Type 0) (p : Entry → Bool) (l : List Entry) → Each P l → Each P (keep p l)
-each-keep P p [] a = tt
-each-keep P p (s ∷ ss) a = caseb (p s) (λ e. rw e (a .0, each-keep P p ss (a .1))) (λ e. rw e (each-keep P p ss (a .1)))
+-- what is kept has passed the test
+pub each-keep : {X : Type 0} (P Q : X → Type 0) (p : X → Bool) (l : List X) → ((x : X) → p x ≡ true → P x → Q x) → Each P l → Each Q (keep p l)
+each-keep P Q p [] f a = tt
+each-keep P Q p (x ∷ xs) f a = caseb (p x) (λ e. rw e (f x e (a .0), each-keep P Q p xs f (a .1))) (λ e. rw e (each-keep P Q p xs f (a .1)))
+
+pub each-map : {X Y : Type 0} (P : X → Type 0) (Q : Y → Type 0) (g : X → Y) (l : List X) → ((x : X) → P x → Q (g x)) → Each P l → Each Q (map g l)
+each-map P Q g [] f a = tt
+each-map P Q g (x ∷ xs) f a = (f x (a .0), each-map P Q g xs f (a .1))
+
+-- what holds of each key holds of a key that is there
+pub each-key : (P : Words → Type 0) (Q : Entry → Type 0) (l : List Entry) → ((s : Entry) → Q s → P (s .key)) → Each Q l → (k : Words) → has l k ≡ true → P k
+each-key P Q [] f a k h = absurd (true≢false (sym h))
+each-key P Q (s ∷ ss) f a k h = caseb (same (s .key) k) (λ e. subst P (same-eq (s .key) k e) (f s (a .0))) (λ e. each-key P Q ss f (a .1) k (rw e at h))
 
 pub each-put : (P : Entry → Type 0) (l : List Entry) (k v : Words) → ((s : Entry) → P s → P (entry (s .key) v)) → Each P l → Each P (put l k v)
 each-put P [] k v f a = tt

@@ -1,61 +1,68 @@
 -- A well-formed table stays well-formed: a fresh one is, and every set and reserve keeps it (01, 'The store'). Assumes nothing.
-use mathlib.Core.Path.{_≡_, refl, sym, subst}
-use mathlib.Core.Bool.{true, false, not, true≢false}
+use mathlib.Core.Path.{_≡_, refl}
+use mathlib.Core.Bool.{true, false, not}
 use mathlib.Core.List.{List, [], _∷_}
-use mathlib.Core.Logic.{_⊎_, inl, inr}
-use Prim.Native.Nat.{ℕ, zero, suc, _+_, _-_, _*_, _^_, _≤_, _<_, max}
+use mathlib.Core.Logic.{inl}
+use Prim.Native.Nat.{ℕ, zero, suc, _+_, _-_, _*_, _≤_, _<_, max}
 use native.Mathlib.Omega.{arith}
 use lib.Dec.{leb, ltb}
 use lib.ListN.{length, getD, length-set, length-append}
 use borrow.Author.Tests.{leb-true, leb-false, ltb-true, ltb-false, not-true}
 use Rattle.value.specs.declared.Words.{Words}
-use Rattle.value.specs.Encoding.{decodes}
+use Rattle.value.specs.Encoding.{decodes, Decodes}
 use Rattle.value.specs.Same.{same, nil, isNil}
 use Rattle.value.proofs.Cases.{caseb, and-right}
 use Rattle.key.specs.declared.CanonicalKey.the-variants.{Key}
 use Rattle.key.specs.Canonical.{integer, canonicalKey}
 use Rattle.key.proofs.Own.{by-key, canonical-own, canonical-decodes}
 use Rattle.model.specs.Entries.{Entry, entry, keysOf, has, find, keep, live, Each}
-use Rattle.model.specs.Table.{Room, Table, fresh, within, indexOf, lookup}
-use Rattle.model.specs.Growth.{candidates, optimalSize, stays, rehashed, grownAllowance}
+use Rattle.model.specs.Table.{Room, Table, fresh, within, placeOf, lookup}
+use Rattle.model.specs.Growth.{optimalSize, stays, rehashed, grownAllowance}
 use Rattle.model.specs.Calls.{writeArray, writeEntry, append, placeIn, grow, setKey, setOf, reserveOf}
-use Rattle.model.specs.WellFormed.{Decodes, ZeroOrPower, WellFormed}
-use Rattle.model.proofs.Entries.{put-keys, length-put, keys-append, has-snoc, kept-entry, length-keep, distinct-snoc, distinct-keep, each-append, each-keep, each-put, each-set, each-tabulate}
-use Rattle.model.proofs.Map.{set-key, set-no-key, rehashed-length, best-power, size-le, absent-still}
+use Rattle.model.specs.WellFormed.{Fair, ZeroOrPower, WellFormed}
+use Rattle.model.proofs.Entries.{put-keys, length-put, keys-append, length-keep, distinct-snoc, distinct-keep, each-append, each-keep, each-put, each-set, each-tabulate}
+use Rattle.model.proofs.Map.{set-key, set-no-key, rehashed-length, absent-still}
+use Rattle.model.proofs.Size.{size-le, size-power}
 
 abbrev DecodesBoth : Entry → Type 0
 DecodesBoth s = Decodes (s .key) × Decodes (s .value)
+
+abbrev Canonical : Entry → Type 0
+Canonical s = canonicalKey (s .key) ≡ Key (s .key)
+
+abbrev Outside : ℕ → Entry → Type 0
+Outside A s = within A (s .key) ≡ false
 
 nil-decodes : Decodes nil
 unfolding decodes
 nil-decodes = refl
 
-pub fresh-kept : (room : Room) → room .arrayRoom ≤ 2 ^ 62 → WellFormed room fresh
+pub fresh-kept : (room : Room) → Fair room → WellFormed room fresh
 fresh-kept room h =
     record {
-      inRange = h;
+      fair = h;
       arrayFits = omega arith;
       entriesFit = omega arith;
       allowanceFits = omega arith;
       power = inl refl;
       arrayDecodes = tt;
       entriesDecode = tt;
-      canonical = λ k hk. absurd (true≢false (sym hk));
-      outside = λ k hk. absurd (true≢false (sym hk));
+      canonical = tt;
+      outside = tt;
       apart = tt;
     }
 
 module _ (room : Room) (t : Table) (k v : Words) (w : WellFormed room t) (dv : Decodes v) where
   writeArray-kept : WellFormed room (writeArray t k v)
   writeArray-kept =
-      let len : length (writeArray t k v .array) ≡ length (t .array) = length-set (t .array) (indexOf k) v in
+      let len : length (writeArray t k v .array) ≡ length (t .array) = length-set (t .array) (placeOf k) v in
       record {
-        inRange = w .inRange;
+        fair = w .fair;
         arrayFits = rw len (w .arrayFits);
         entriesFit = w .entriesFit;
         allowanceFits = w .allowanceFits;
         power = rw len (w .power);
-        arrayDecodes = each-set Decodes (t .array) (indexOf k) v dv (w .arrayDecodes);
+        arrayDecodes = each-set Decodes (t .array) (placeOf k) v dv (w .arrayDecodes);
         entriesDecode = w .entriesDecode;
         canonical = w .canonical;
         outside = rw len (w .outside);
@@ -65,36 +72,32 @@ module _ (room : Room) (t : Table) (k v : Words) (w : WellFormed room t) (dv : D
   writeEntry-kept : WellFormed room (writeEntry t k v)
   writeEntry-kept =
       record {
-        inRange = w .inRange;
+        fair = w .fair;
         arrayFits = w .arrayFits;
         entriesFit = rw (length-put (t .entries) k v) (w .entriesFit);
         allowanceFits = w .allowanceFits;
         power = w .power;
         arrayDecodes = w .arrayDecodes;
         entriesDecode = each-put DecodesBoth (t .entries) k v (λ s d. (d .0, dv)) (w .entriesDecode);
-        canonical = rw (put-keys (t .entries) k v) (w .canonical);
-        outside = rw (put-keys (t .entries) k v) (w .outside);
+        canonical = each-put Canonical (t .entries) k v (λ s c. c) (w .canonical);
+        outside = each-put (Outside (length (t .array))) (t .entries) k v (λ s o. o) (w .outside);
         apart = rw (put-keys (t .entries) k v) (w .apart);
       }
 
   append-kept : (M : ℕ) → Decodes k → canonicalKey k ≡ Key k → within (length (t .array)) k ≡ false → has (t .entries) k ≡ false → length (t .entries) < M → M ≤ room .entryRoom → WellFormed room (append t k v M)
   append-kept M dk c b n h g =
       record {
-        inRange = w .inRange;
+        fair = w .fair;
         arrayFits = w .arrayFits;
         entriesFit = omega (arith, length-append (t .entries) (entry k v ∷ []));
         allowanceFits = g;
         power = w .power;
         arrayDecodes = w .arrayDecodes;
         entriesDecode = each-append DecodesBoth (t .entries) (entry k v ∷ []) (w .entriesDecode) ((dk, dv), tt);
-        canonical = λ j hj. one (λ x. canonicalKey x ≡ Key x) (w .canonical) c j (has-snoc (t .entries) k v j hj);
-        outside = λ j hj. one (λ x. within (length (t .array)) x ≡ false) (w .outside) b j (has-snoc (t .entries) k v j hj);
+        canonical = each-append Canonical (t .entries) (entry k v ∷ []) (w .canonical) (c, tt);
+        outside = each-append (Outside (length (t .array))) (t .entries) (entry k v ∷ []) (w .outside) (b, tt);
         apart = rw (keys-append (t .entries) (entry k v ∷ [])) (distinct-snoc (keysOf (t .entries)) k (w .apart) n);
       }
-    where
-      one : (P : Words → Type 0) → ((j : Words) → has (t .entries) j ≡ true → P j) → P k → (j : Words) → (has (t .entries) j ≡ true) ⊎ (k ≡ j) → P j
-      one P f p j (inl x) = f j x
-      one P f p j (inr q) = subst P q p
 
 -- ---- growth
 max-power : (m n : ℕ) → ZeroOrPower m → ZeroOrPower n → ZeroOrPower (max m n)
@@ -116,22 +119,22 @@ pub lookup-decodes : (room : Room) (t : Table) (k : Words) → WellFormed room t
 unfolding lookup
 lookup-decodes room t k w =
     caseb (within (length (t .array)) k)
-    (λ e. rw e (getD-decodes (t .array) (indexOf k) (w .arrayDecodes)))
+    (λ e. rw e (getD-decodes (t .array) (placeOf k) (w .arrayDecodes)))
     (λ e. rw e (find-decodes (t .entries) k (w .entriesDecode)))
 
 rehashed-kept : (room : Room) (t : Table) (S : ℕ) → S ≤ room .arrayRoom → ZeroOrPower S → WellFormed room t → WellFormed room (rehashed t S)
 unfolding rehashed
 rehashed-kept room t S h q w =
     record {
-      inRange = w .inRange;
+      fair = w .fair;
       arrayFits = omega (arith, len, w .arrayFits);
       entriesFit = omega (arith, length-keep (stays A) (t .entries), w .entriesFit);
       allowanceFits = w .allowanceFits;
       power = rw len (max-power (length (t .array)) S (w .power) q);
       arrayDecodes = each-tabulate Decodes A (λ i. lookup t (integer (suc i))) 0 (λ i. lookup-decodes room t (integer (suc i)) w);
-      entriesDecode = each-keep DecodesBoth (stays A) (t .entries) (w .entriesDecode);
-      canonical = λ k hk. w .canonical k (kept-entry (stays A) (t .entries) k hk .3);
-      outside = λ k hk. rw len (left k (kept-entry (stays A) (t .entries) k hk));
+      entriesDecode = each-keep DecodesBoth DecodesBoth (stays A) (t .entries) (λ s e d. d) (w .entriesDecode);
+      canonical = each-keep Canonical Canonical (stays A) (t .entries) (λ s e c. c) (w .canonical);
+      outside = rw len (each-keep (Outside (length (t .array))) (Outside A) (stays A) (t .entries) (λ s e o. left s e) (w .outside));
       apart = distinct-keep (stays A) (t .entries) (w .apart);
     }
   where
@@ -141,10 +144,8 @@ rehashed-kept room t S h q w =
     len : length ((rehashed t S) .array) ≡ A
     len = rehashed-length t S
 
-    left : (k : Words) → (x : Entry) × (x .key ≡ k) × (stays A x ≡ true) × (has (t .entries) k ≡ true) → within A k ≡ false
-    left k r =
-        unfold stays in
-        subst (λ (y : Words). within A y ≡ false) (r .1) (not-true (within A (r .0 .key)) (and-right (live (r .0)) (not (within A (r .0 .key))) (r .2)))
+    left : (x : Entry) → stays A x ≡ true → within A (x .key) ≡ false
+    left x e = unfold stays in not-true (within A (x .key)) (and-right (live x) (not (within A (x .key))) e)
 
 -- an accepted growth leaves room for the pair that is appended
 pub allowance-enough : (e L M : ℕ) → L ≤ M → M ≤ e → L < e → (L < grownAllowance e L M) × (grownAllowance e L M ≤ e)
@@ -179,7 +180,7 @@ setKey-kept room t k v w dk dv c =
     (λ f. rw f (append-kept room t k v w dv (t .allowance) dk c b n (ltb-true (length (t .entries)) (t .allowance) f) (w .allowanceFits)))
     (λ f. let S : ℕ = optimalSize room t k in
     rw f (placeIn-kept room t (rehashed t S) k v w
-    (rehashed-kept room t S (size-le room t k) (best-power (candidates t k) (room .arrayRoom) (room .classes)) w) dk dv c (absent-still t S k n)))))))))
+    (rehashed-kept room t S (size-le room t k) (size-power room t k) w) dk dv c (absent-still t S k n)))))))))
 
 pub setOf-kept : (room : Room) (t : Table) (key v : Words) → WellFormed room t → Decodes key → Decodes v → WellFormed room ((setOf room t key v) .table)
 setOf-kept room t key v w dk dv =
@@ -196,14 +197,14 @@ reserve-kept room t n w =
     (λ b. rw b (caseb (ltb (room .entryRoom) (L + n))
     (λ d. rw d w)
     (λ d. rw d (record {
-      inRange = w .inRange;
+      fair = w .fair;
       arrayFits = w .arrayFits;
       entriesFit = omega arith;
       allowanceFits = omega (arith, ltb-false (room .entryRoom) (L + n) d, w .allowanceFits);
       power = w .power;
       arrayDecodes = w .arrayDecodes;
-      entriesDecode = each-keep DecodesBoth live (t .entries) (w .entriesDecode);
-      canonical = λ k hk. w .canonical k (kept-entry live (t .entries) k hk .3);
-      outside = λ k hk. w .outside k (kept-entry live (t .entries) k hk .3);
+      entriesDecode = each-keep DecodesBoth DecodesBoth live (t .entries) (λ s e d. d) (w .entriesDecode);
+      canonical = each-keep Canonical Canonical live (t .entries) (λ s e c. c) (w .canonical);
+      outside = each-keep (Outside (length (t .array))) (Outside (length (t .array))) live (t .entries) (λ s e o. o) (w .outside);
       apart = distinct-keep live (t .entries) (w .apart);
     }))))

@@ -4,24 +4,24 @@ use mathlib.Core.Path.{_≡_, refl, sym, ap, _∙_}
 use mathlib.Core.Bool.{Bool, true, false, cond, _&&_, _||_}
 use mathlib.Core.List.{List}
 use mathlib.Core.Logic.{_⊎_, inl, inr}
-use Prim.Native.Nat.{ℕ, zero, suc, _+_, _-_, _^_, _/_, _≤_, max}
+use Prim.Native.Nat.{ℕ, suc, _+_, _-_, _^_, _≤_, max}
 use native.Mathlib.Omega.{arith}
 use lib.Dec.{leb, ltb}
 use lib.ListN.{length, length-set}
-use borrow.Author.Tests.{leb-true}
 use Rattle.value.specs.declared.Words.{Words}
 use Rattle.value.specs.Same.{same, nil, isNil}
-use Rattle.value.proofs.Cases.{caseb, and-left}
+use Rattle.value.proofs.Cases.{caseb}
 use Rattle.value.proofs.Same.{same-eq, not-live}
 use Rattle.key.specs.Refusals.{noRoom}
 use Rattle.key.specs.declared.CanonicalKey.the-variants.{Key, No}
 use Rattle.key.specs.Canonical.{integer, largest, canonicalKey}
 use Rattle.model.specs.Entries.{Entry, keysOf, distinct, has, find, keep, live}
 use Rattle.model.specs.Table.{Room, Table, within, pairs, lookup}
-use Rattle.model.specs.Growth.{candidates, best, optimalSize, stays, rehashed, grownAllowance}
+use Rattle.model.specs.Growth.{optimalSize, stays, rehashed, grownAllowance}
 use Rattle.model.specs.Calls.{Outcome, refuse, writeArray, writeEntry, append, placeIn, grow, setKey, setOf, reserveOf}
-use Rattle.model.specs.WellFormed.{ZeroOrPower, WellFormed}
-use Rattle.model.proofs.Entries.{find-put, find-snoc, has-keep, find-keep, length-tabulate, getD-tabulate}
+use Rattle.model.specs.WellFormed.{WellFormed}
+use Rattle.model.proofs.Entries.{updated, find-put, find-snoc, has-keep, find-keep, length-tabulate, getD-tabulate}
+use Rattle.model.proofs.Size.{size-le}
 use Rattle.model.proofs.Array.{Inside, inside, within-more, has-pairs, lookup-within, lookup-array, lookup-outside, lookup-absent, find-pairs, pairs-writeArray, pairs-writeEntry, pairs-append}
 
 -- ---- set by the canonical key, or by the refusal
@@ -32,10 +32,6 @@ set-key room t key v k e = rw e
 pub set-no-key : (room : Room) (t : Table) (key v : Words) (n : ℕ) → canonicalKey key ≡ No n → setOf room t key v ≡ refuse n t
 unfolding setOf
 set-no-key room t key v n e = rw e
-
--- a map with v at k
-abbrev pub updated : (Words → Words) → Words → Words → Words → Words
-updated m k v j = cond (same k j) v (m j)
 
 -- ---- the three writes
 module _ (t : Table) (k v j : Words) (h : length (t .array) ≤ largest) where
@@ -96,27 +92,6 @@ rehashed-lookup t S j d =
     ∙ find-keep (stays A) (t .entries) j d (λ s p b. not-stays A s (ap (within A) p ∙ e) b)
     ∙ sym (lookup-outside t j (within-more (length (t .array)) A j (omega arith) e)))
 
--- ---- step 2: S is at most a, and 0 or a power of two
-pub best-le : (count : ℕ → ℕ) (a i : ℕ) → best count a i ≤ a
-unfolding best
-best-le count a zero = omega arith
-best-le count a (suc i) =
-    caseb (leb (2 ^ i) a && ltb (2 ^ i / 2) (count (2 ^ i)))
-    (λ e. rw e (leb-true (2 ^ i) a (and-left (leb (2 ^ i) a) (ltb (2 ^ i / 2) (count (2 ^ i))) e)))
-    (λ e. rw e (best-le count a i))
-
-pub best-power : (count : ℕ → ℕ) (a i : ℕ) → ZeroOrPower (best count a i)
-unfolding best
-best-power count a zero = inl refl
-best-power count a (suc i) =
-    caseb (leb (2 ^ i) a && ltb (2 ^ i / 2) (count (2 ^ i)))
-    (λ e. rw e (inr (i, refl)))
-    (λ e. rw e (best-power count a i))
-
-pub size-le : (room : Room) (t : Table) (k : Words) → optimalSize room t k ≤ room .arrayRoom
-unfolding optimalSize
-size-le room t k = best-le (candidates t k) (room .arrayRoom) (room .classes)
-
 -- ---- a set that is done, as a map sees it
 pub record Sets (m : Words → Words) (k v : Words) (o : Outcome) : Type 0 where
   pub ok : o .refusal ≡ 0
@@ -124,7 +99,7 @@ pub record Sets (m : Words → Words) (k v : Words) (o : Outcome) : Type 0 where
   pub now : (j : Words) → lookup (o .table) j ≡ updated m k v j
 
 pub in-range : {room : Room} {t : Table} → WellFormed room t → length (t .array) ≤ 2 ^ 62
-in-range w = omega (arith, w .inRange, w .arrayFits)
+in-range w = omega (arith, w .fair .integers, w .arrayFits)
 
 pub numbered : {room : Room} {t : Table} → WellFormed room t → length (t .array) ≤ largest
 numbered w = omega (arith, in-range w)
@@ -151,7 +126,7 @@ grow-sets : (room : Room) (t : Table) (k v : Words) → WellFormed room t → ha
 unfolding grow
 grow-sets room t k v w c z =
     let S : ℕ = optimalSize room t k in
-    placeIn-sets (room .entryRoom) t (rehashed t S) k v (omega (arith, rehashed-length t S, in-range w, size-le room t k, w .inRange))
+    placeIn-sets (room .entryRoom) t (rehashed t S) k v (omega (arith, rehashed-length t S, in-range w, size-le room t k, w .fair .integers))
     (λ j. rehashed-lookup t S j (w .apart)) (absent-still t S k c) z
 
 -- every set of a canonical key is a map's set, or is refused for want of room

@@ -1,23 +1,24 @@
 -- `next` against the manual (§6.1): from Nil, and then from each key handed out, a walk that nothing disturbs lists every key with a value
 -- exactly once, with that value, and then ends. Assumes nothing.
 use mathlib.Core.Path.{_≡_, refl, sym, ap, subst, _∙_}
-use mathlib.Core.Bool.{true, false, not}
+use mathlib.Core.Bool.{true, false, not, true≢false}
 use mathlib.Core.List.{List, [], _∷_, _++_, append-assoc}
-use Prim.Native.Nat.{ℕ}
-use native.Mathlib.Omega.{arith}
+use Prim.Native.Nat.{ℕ, zero, suc, _+_, _<_}
+use native.Mathlib.Nat.{le-of-suc-le-suc, not-suc-le-zero}
+use lib.ListN.{length, drop}
 use Rattle.value.specs.declared.Words.{Words}
 use Rattle.value.specs.Same.{same, nil, isNil}
-use Rattle.value.proofs.Cases.{caseb, clash, or-right}
+use Rattle.value.proofs.Cases.{caseb, clash, or-right, never}
 use Rattle.value.proofs.Same.{same-eq, same-refl, ne-same, not-live}
 use Rattle.key.specs.declared.CanonicalKey.the-variants.{Key}
-use Rattle.key.specs.Canonical.{canonicalKey}
+use Rattle.key.specs.Canonical.{integer, canonicalKey}
 use Rattle.key.proofs.Own.{canonical-integer}
 use Rattle.model.specs.Entries.{Entry, entry, keysOf, distinct, has, find, keep, live, NextValue, first, from}
-use Rattle.model.specs.Table.{Room, Table, pairs, lookup, getOf, nextOf}
+use Rattle.model.specs.Table.{Room, Table, within, arrayPairs, pairs, lookup, getOf, nextOf}
 use Rattle.model.specs.WellFormed.{WellFormed}
 use Rattle.model.specs.Manual.{Lists, end, more, PairsOf}
-use Rattle.model.proofs.Entries.{has-append, has-keep, find-keep, distinct-keep}
-use Rattle.model.proofs.Array.{key-of-pairs, find-pairs, distinct-pairs}
+use Rattle.model.proofs.Entries.{has-append, has-keep, find-keep, distinct-keep, each-key}
+use Rattle.model.proofs.Array.{is-first, not-first, next-place, key-of-pairs, find-pairs, distinct-pairs}
 use Rattle.model.proofs.Map.{numbered}
 
 -- ---- next at Nil, and get at a key
@@ -31,10 +32,10 @@ get-key t key k c = rw c
 
 -- ---- the pairs of a well-formed table
 pub pairs-apart : {room : Room} {t : Table} → WellFormed room t → distinct (keysOf (pairs t))
-pairs-apart {t = t} w = distinct-pairs t (numbered w) (w .apart) (w .outside)
+pairs-apart {t = t} w = distinct-pairs t (numbered w) (w .apart) (each-key (λ k. within (length (t .array)) k ≡ false) _ (t .entries) (λ s o. o) (w .outside))
 
 pub pair-canonical : {room : Room} {t : Table} (k : Words) → WellFormed room t → has (pairs t) k ≡ true → canonicalKey k ≡ Key k
-pair-canonical {t = t} k w h = key-of-pairs (λ x. canonicalKey x ≡ Key x) t (numbered w) canonical-integer (w .canonical) k h
+pair-canonical {t = t} k w h = key-of-pairs (λ x. canonicalKey x ≡ Key x) t (numbered w) canonical-integer (each-key (λ x. canonicalKey x ≡ Key x) _ (t .entries) (λ s c. c) (w .canonical)) k h
 
 -- ---- a list walked from its start
 pub has-middle : (pre : List Entry) (s : Entry) (post : List Entry) → has (pre ++ (s ∷ post)) (s .key) ≡ true
@@ -46,6 +47,16 @@ from-middle [] s post d = rw (same-refl (s .key))
 from-middle (x ∷ pre) s post d =
     let n : same (x .key) (s .key) ≡ false = ne-same (x .key) (s .key) (λ p. clash (subst (λ (y : Words). has (pre ++ (s ∷ post)) y ≡ true) (sym p) (has-middle pre s post)) (d .0))
     in rw n (from-middle pre s post (d .1))
+
+-- ---- from, on joined lists
+pub from-array : (vs : List Words) (n i : ℕ) (k : Words) (m : List Entry) → k ≡ integer (suc (n + i)) → i < length vs → from (arrayPairs n vs ++ m) k ≡ first (drop (suc i) (arrayPairs n vs) ++ m)
+from-array [] n i k m p h = absurd (not-suc-le-zero h)
+from-array (v ∷ vs) n zero k m p h = rw (is-first n k p)
+from-array (v ∷ vs) n (suc i) k m p h = rw (not-first n i k p) (from-array vs (suc n) i k m (next-place n i k p) (le-of-suc-le-suc h))
+
+pub from-append-not : (l m : List Entry) (k : Words) → has l k ≡ false → from (l ++ m) k ≡ from m k
+from-append-not [] m k h = refl
+from-append-not (s ∷ ss) m k h = caseb (same (s .key) k) (λ e. absurd (true≢false (rw e at h))) (λ e. rw e (from-append-not ss m k (rw e at h)))
 
 -- a `next` that goes through a list of pairs: at the start its first with a value, and from each key of the list the first after it
 module _ (next : Words → NextValue) (l : List Entry) (once : distinct (keysOf l)) (goes : (k : Words) → has l k ≡ true → next k ≡ from l k) where
@@ -73,8 +84,8 @@ next-there t w k h = rw (pair-canonical k w h)
 -- what a walk lists is determined
 pub lists-one : (next : Words → NextValue) {key : Words} {l m : List Entry} → Lists next key l → Lists next key m → l ≡ m
 lists-one next (end p) (end q) = refl
-lists-one next (end p) (more k v q b) = let z : _≡_ {A = ℕ} 0 1 = cc in absurd (omega arith)
-lists-one next (more k v p a) (end q) = let z : _≡_ {A = ℕ} 0 1 = cc in absurd (omega arith)
+lists-one next (end p) (more k v q b) = never (cc)
+lists-one next (more k v p a) (end q) = never (cc)
 lists-one next (more {ss = ss} k v p a) (more {ss = rs} j u q b) =
     let kk : j ≡ k = cc in
     let vv : v ≡ u = cc in
@@ -97,8 +108,8 @@ pub live-pairs : (value : Words → Words) (l : List Entry) → distinct (keysOf
 live-pairs value l d h =
     record {
       once = distinct-keep live l d;
-      each = λ k. has-live l k d ∙ ap (λ (v : Words). not (isNil v)) (h k);
-      shown = λ k. find-keep live l k d (λ s p b. not-live (s .value) b) ∙ h k;
+      keys = λ k. has-live l k d ∙ ap (λ (v : Words). not (isNil v)) (h k);
+      values = λ k. find-keep live l k d (λ s p b. not-live (s .value) b) ∙ h k;
     }
 
 pub next-lists : {room : Room} (t : Table) → WellFormed room t → Lists (nextOf t) nil (keep live (pairs t)) × PairsOf (lookup t) (keep live (pairs t))

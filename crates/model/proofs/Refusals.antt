@@ -1,6 +1,6 @@
 -- Refusals: 1 and 2 exactly for a key that is Nil or NaN, 3 exactly under 01's step 5, for reserve exactly when L + n > e; and a refusal
 -- answers the table as it was ('Refusal numbers'). Assumes nothing.
-use mathlib.Core.Path.{_≡_, ap, _∙_}
+use mathlib.Core.Path.{_≡_, refl, ap, _∙_}
 use mathlib.Core.Bool.{true}
 use mathlib.Core.Logic.{_⊎_, inl, inr}
 use Prim.Native.Nat.{ℕ, _+_, _-_, _≤_}
@@ -24,8 +24,8 @@ use Rattle.model.specs.WellFormed.{WellFormed}
 use Rattle.model.specs.Refused.{Full, Refused, nilKey, nanKey, full, NoSpace}
 use Rattle.model.proofs.Map.{set-key, set-no-key, Sets, set-sets}
 
-never : {X : Type 0} → _≡_ {A = ℕ} 0 3 → X
-never p = absurd (differ p)
+zero-three : {X : Type 0} → _≡_ {A = ℕ} 0 3 → X
+zero-three p = absurd (differ p)
   where
     differ : _≡_ {A = ℕ} 0 3 → ⊥
     differ q = omega arith
@@ -35,18 +35,18 @@ unfolding setKey grow placeIn
 refused-full room t k v h =
     let r : Table = rehashed t (optimalSize room t k) in
     caseb (within (length (t .array)) k)
-    (λ b. never (rw b at h))
+    (λ b. zero-three (rw b at h))
     (λ b. caseb (has (t .entries) k)
-    (λ c. never (rw (b, c) at h))
+    (λ c. zero-three (rw (b, c) at h))
     (λ c. caseb (isNil v)
-    (λ d. never (rw (b, c, d) at h))
+    (λ d. zero-three (rw (b, c, d) at h))
     (λ d. caseb (ltb (length (t .entries)) (t .allowance))
-    (λ f. never (rw (b, c, d, f) at h))
+    (λ f. zero-three (rw (b, c, d, f) at h))
     (λ f. caseb (within (length (r .array)) k)
-    (λ g. never (rw (b, c, d, f, g) at h))
+    (λ g. zero-three (rw (b, c, d, f, g) at h))
     (λ g. caseb (leb (room .entryRoom) (length (r .entries)))
     (λ l. record { notArray = b; absent = c; value = d; spent = ltb-false (length (t .entries)) (t .allowance) f; beyond = g; noPlace = leb-true (room .entryRoom) (length (r .entries)) l })
-    (λ l. never (rw (b, c, d, f, g, l) at h)))))))
+    (λ l. zero-three (rw (b, c, d, f, g, l) at h)))))))
 
 pub full-refused : (room : Room) (t : Table) (k v : Words) → Full room t k v → (setKey room t k v) .refusal ≡ noRoom
 unfolding setKey grow placeIn
@@ -75,8 +75,8 @@ refused-set room t key v (nanKey h n) = ap (λ (o : Outcome). o .refusal) (set-n
 refused-set room t key v (full k e f) = ap (λ (o : Outcome). o .refusal) (set-key room t key v k e) ∙ full-refused room t k v f
 
 -- what a refused set leaves is the table as it was
-pub refused-same : (room : Room) (t : Table) (key v : Words) → WellFormed room t → ((setOf room t key v) .refusal ≡ 0 → ⊥) → (setOf room t key v) .table ≡ t
-refused-same room t key v w r =
+pub set-unchanged : (room : Room) (t : Table) (key v : Words) → WellFormed room t → ((setOf room t key v) .refusal ≡ 0 → ⊥) → (setOf room t key v) .table ≡ t
+set-unchanged room t key v w r =
     by-key key
     (λ k e. let q : setOf room t key v ≡ setKey room t k v = set-key room t key v k e in ap (λ (o : Outcome). o .table) q ∙ by-room k (rw q at r) (set-sets room t k v w))
     (λ n e. ap (λ (o : Outcome). o .table) (set-no-key room t key v n e))
@@ -85,17 +85,22 @@ refused-same room t key v w r =
     by-room k r (inl m) = absurd (r (m .ok))
     by-room k r (inr p) = ap (λ (o : Outcome). o .table) p
 
--- ---- reserve
-pub reserve-refused : (room : Room) (t : Table) (n : ℕ) → (reserveOf room t n) .refusal ≡ noRoom → NoSpace room t n
+-- ---- reserve: refused for this reason, or done
+pub reserve-either : (room : Room) (t : Table) (n : ℕ) → ((reserveOf room t n ≡ refuse noRoom t) × NoSpace room t n) ⊎ (((reserveOf room t n) .refusal ≡ 0) × ((reserveOf room t n) .previous ≡ nil))
 unfolding reserveOf
-reserve-refused room t n h =
-    caseb (leb n (t .allowance - length (t .entries)))
-    (λ b. never (rw b at h))
-    (λ b. caseb (ltb (room .entryRoom) (length (keep live (t .entries)) + n))
-    (λ d. record { wanted = leb-false n (t .allowance - length (t .entries)) b; over = ltb-true (room .entryRoom) (length (keep live (t .entries)) + n) d })
-    (λ d. never (rw (b, d) at h)))
+reserve-either room t n =
+    let free : ℕ = t .allowance - length (t .entries) in
+    let needed : ℕ = length (keep live (t .entries)) + n in
+    caseb (leb n free)
+    (λ b. rw b (inr (refl, refl)))
+    (λ b. rw b (caseb (ltb (room .entryRoom) needed)
+    (λ d. rw d (inl (refl, record { wanted = leb-false n free b; over = ltb-true (room .entryRoom) needed d })))
+    (λ d. rw d (inr (refl, refl)))))
 
-pub refused-reserve : (room : Room) (t : Table) (n : ℕ) → NoSpace room t n → (reserveOf room t n) .refusal ≡ noRoom
+pub reserve-refused : (room : Room) (t : Table) (n : ℕ) → ((reserveOf room t n) .refusal ≡ 0 → ⊥) → (reserveOf room t n ≡ refuse noRoom t) × NoSpace room t n
+reserve-refused room t n r = elim (reserve-either room t n) [ inl x ↦ x | inr x ↦ absurd (r (x .0)) ]
+
+pub refused-reserve : (room : Room) (t : Table) (n : ℕ) → NoSpace room t n → reserveOf room t n ≡ refuse noRoom t
 unfolding reserveOf
 refused-reserve room t n x =
     rw (lt-leb n (t .allowance - length (t .entries)) (x .wanted), lt-ltb (room .entryRoom) (length (keep live (t .entries)) + n) (x .over))
@@ -104,12 +109,3 @@ refused-reserve room t n x =
 pub reserve-enough : (room : Room) (t : Table) (n : ℕ) → n ≤ t .allowance - length (t .entries) → reserveOf room t n ≡ done nil t
 unfolding reserveOf
 reserve-enough room t n h = rw (le-leb n (t .allowance - length (t .entries)) h)
-
-pub reserve-same : (room : Room) (t : Table) (n : ℕ) → ((reserveOf room t n) .refusal ≡ 0 → ⊥) → (reserveOf room t n) .table ≡ t
-unfolding reserveOf
-reserve-same room t n r =
-    caseb (leb n (t .allowance - length (t .entries)))
-    (λ b. rw b)
-    (λ b. rw b (caseb (ltb (room .entryRoom) (length (keep live (t .entries)) + n))
-    (λ d. rw d)
-    (λ d. absurd (r (rw (b, d))))))

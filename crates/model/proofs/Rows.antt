@@ -1,4 +1,4 @@
--- P1 to P11 and the row of reserve, under one claim, by computation. Assumes nothing.
+-- P1 to P11 and the other rows, under one claim, by computation. Assumes nothing.
 use mathlib.Core.Path.{_≡_, refl}
 use mathlib.Core.Bool.{true}
 use lib.Count.{trailingZeros}

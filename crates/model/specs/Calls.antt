@@ -10,7 +10,7 @@ use Rattle.value.specs.Same.{nil, isNil}
 use Rattle.key.specs.Refusals.{noRoom}
 use Rattle.key.specs.Canonical.{canonicalKey, onKey}
 use Rattle.model.specs.Entries.{entry, has, find, put, keep, live}
-use Rattle.model.specs.Table.{Room, Table, within, indexOf}
+use Rattle.model.specs.Table.{Room, Table, within, placeOf}
 use Rattle.model.specs.Growth.{optimalSize, rehashed, grownAllowance}
 
 pub record Outcome : Type 0 where
@@ -25,7 +25,7 @@ abbrev pub refuse : ℕ → Table → Outcome
 refuse n t = record { refusal = n; previous = nil; table = t }
 
 abbrev pub writeArray : Table → Words → Words → Table
-writeArray t k v = record { array = set (t .array) (indexOf k) v; entries = t .entries; allowance = t .allowance }
+writeArray t k v = record { array = set (t .array) (placeOf k) v; entries = t .entries; allowance = t .allowance }
 
 abbrev pub writeEntry : Table → Words → Words → Table
 writeEntry t k v = record { array = t .array; entries = put (t .entries) k v; allowance = t .allowance }
@@ -48,7 +48,7 @@ grow room t k v = placeIn (room .entryRoom) t (rehashed t (optimalSize room t k)
 unfoldable pub setKey : Room → Table → Words → Words → Outcome
 setKey room t k v =
     cond (within (length (t .array)) k)
-    (done (getD (t .array) (indexOf k) nil) (writeArray t k v))
+    (done (getD (t .array) (placeOf k) nil) (writeArray t k v))
     (cond (has (t .entries) k)
     (done (find (t .entries) k) (writeEntry t k v))
     (cond (isNil v)

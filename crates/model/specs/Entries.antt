@@ -2,7 +2,7 @@
 -- Assumes nothing.
 use mathlib.Core.Path.{_≡_}
 use mathlib.Core.Bool.{Bool, false, not, cond, _||_}
-use mathlib.Core.List.{List, [], _∷_}
+use mathlib.Core.List.{List, [], _∷_, map}
 use Rattle.value.specs.declared.Words.{Words}
 use Rattle.value.specs.Same.{same, nil, isNil}
 
@@ -14,8 +14,7 @@ abbrev pub entry : Words → Words → Entry
 entry k v = record { key = k; value = v }
 
 abbrev pub keysOf : List Entry → List Words
-keysOf [] = []
-keysOf (s ∷ ss) = s .key ∷ keysOf ss
+keysOf l = map (λ (s : Entry). s .key) l
 
 abbrev pub member : List Words → Words → Bool
 member [] k = false
@@ -38,9 +37,9 @@ abbrev pub put : List Entry → Words → Words → List Entry
 put [] k v = []
 put (s ∷ ss) k v = cond (same (s .key) k) (entry (s .key) v ∷ ss) (s ∷ put ss k v)
 
-abbrev pub keep : (Entry → Bool) → List Entry → List Entry
+abbrev pub keep : {X : Type 0} → (X → Bool) → List X → List X
 keep p [] = []
-keep p (s ∷ ss) = cond (p s) (s ∷ keep p ss) (keep p ss)
+keep p (x ∷ xs) = let rest = keep p xs in cond (p x) (x ∷ rest) rest
 
 -- an entry that is not cleared
 abbrev pub live : Entry → Bool

@@ -1,6 +1,6 @@
 -- Growth (01, 'Growth', steps 1 to 4): the candidates and their classes, the size S, what is dropped and moved, and the allowance M.
 -- Assumes nothing.
-use mathlib.Core.Bool.{Bool, false, cond, _&&_, not}
+use mathlib.Core.Bool.{Bool, cond, _&&_, not}
 use mathlib.Core.List.{List, [], _∷_}
 use Prim.Native.Nat.{ℕ, zero, suc, _+_, _*_, _/_, _^_, _≤_, _<_, min, max}
 use lib.Dec.{eqb, leb, ltb}
@@ -13,26 +13,29 @@ use Rattle.key.specs.Canonical.{integer, arrayIndex}
 use Rattle.model.specs.Entries.{Entry, keep, live}
 use Rattle.model.specs.Table.{Room, Table, within, pairs, lookup}
 
--- how many pairs with a value have an index below S
-abbrev pub countBelow : ℕ → List Entry → ℕ
+-- step 1: the candidates are the array indices of the pairs with a value, and the new key's
+abbrev pub withIndex : ArrayIndex → List ℕ → List ℕ
+withIndex (At i) l = i ∷ l
+withIndex Nothing l = l
+
+abbrev pub indices : List Entry → List ℕ
+indices [] = []
+indices (s ∷ ss) = let rest = indices ss in cond (live s) (withIndex (arrayIndex (s .key)) rest) rest
+
+unfoldable pub candidates : Table → Words → List ℕ
+candidates t k = withIndex (arrayIndex k) (indices (pairs t))
+
+-- how many of these numbers are below S
+abbrev pub countBelow : ℕ → List ℕ → ℕ
 countBelow S [] = 0
-countBelow S (s ∷ ss) = cond (live s && within S (s .key)) 1 0 + countBelow S ss
+countBelow S (i ∷ l) = cond (ltb i S) 1 0 + countBelow S l
 
--- step 1: the candidates below S, the new key's index among them
-unfoldable pub candidates : Table → Words → ℕ → ℕ
-candidates t k S = countBelow S (pairs t) + cond (within S k) 1 0
-
--- the class of an index is its count of significant bits
-abbrev pub ofClass : ℕ → ArrayIndex → Bool
-ofClass c (At i) = eqb (size i) c
-ofClass c Nothing = false
-
--- how many pairs with a value have an index of class c, and of the classes 0 to c together
-abbrev pub tally : ℕ → List Entry → ℕ
+-- the class of an index is its count of significant bits: how many are of class c, and of the classes 0 to c together
+abbrev pub tally : ℕ → List ℕ → ℕ
 tally c [] = 0
-tally c (s ∷ ss) = cond (live s && ofClass c (arrayIndex (s .key))) 1 0 + tally c ss
+tally c (i ∷ l) = cond (eqb (size i) c) 1 0 + tally c l
 
-abbrev pub tallyTo : ℕ → List Entry → ℕ
+abbrev pub tallyTo : ℕ → List ℕ → ℕ
 tallyTo zero l = tally zero l
 tallyTo (suc c) l = tallyTo c l + tally (suc c) l
 
@@ -47,7 +50,7 @@ best count a zero = 0
 best count a (suc i) = cond (leb (2 ^ i) a && ltb (2 ^ i / 2) (count (2 ^ i))) (2 ^ i) (best count a i)
 
 unfoldable pub optimalSize : Room → Table → Words → ℕ
-optimalSize room t k = best (candidates t k) (room .arrayRoom) (room .classes)
+optimalSize room t k = best (λ S. countBelow S (candidates t k)) (room .arrayRoom) (room .classes)
 
 abbrev pub tabulate : {X : Type 0} → ℕ → (ℕ → X) → ℕ → List X
 tabulate zero f i = []

@@ -26,5 +26,5 @@ pub data Lists (next : Words → NextValue) : Words → List Entry → Type 0 wh
 -- the pairs of a map: each key with a value once, with that value, and no other key
 pub record PairsOf (value : Words → Words) (l : List Entry) : Type 0 where
   pub once : distinct (keysOf l)
-  pub each : (k : Words) → has l k ≡ not (isNil (value k))
-  pub shown : (k : Words) → find l k ≡ value k
+  pub keys : (k : Words) → has l k ≡ not (isNil (value k))
+  pub values : (k : Words) → find l k ≡ value k

@@ -1,4 +1,4 @@
--- 01's sequences P1 to P11 written down, and one of reserve: a row has its room, the calls in order, and what each must answer.
+-- 01's sequences P1 to P11 written down, and others where the rules turn: a row has its room, the calls in order, and what each must answer.
 -- Assumes nothing.
 use mathlib.Core.Bool.{Bool, true, false, _&&_}
 use mathlib.Core.List.{List, [], _∷_, _++_}
@@ -15,40 +15,40 @@ use Rattle.model.specs.Calls.{Outcome, setOf, reserveOf}
 use Rattle.model.specs.Length.{lengthOf}
 
 -- the record answers A, M and E
-pub data Call : Type 0 where
-  get : Words → Call
-  set : Words → Words → Call
-  next : Words → Call
-  length? : Call
-  reserve : ℕ → Call
-  record? : Call
+pub data Question : Type 0 where
+  get : Words → Question
+  set : Words → Words → Question
+  next : Words → Question
+  length? : Question
+  reserve : ℕ → Question
+  record? : Question
 
 -- an answer in numbers: a value is its kind and payload; `next` has 0, 1 or 2 before the pair, Last and NotFound
-abbrev pub value : Words → List ℕ
-value v = v .kind ∷ v .payload ∷ []
+abbrev pub numbers : Words → List ℕ
+numbers v = v .kind ∷ v .payload ∷ []
 
 abbrev pub nextValue : NextValue → List ℕ
-nextValue (found k v) = 0 ∷ value k ++ value v
+nextValue (found k v) = 0 ∷ numbers k ++ numbers v
 nextValue last = 1 ∷ []
 nextValue notFound = 2 ∷ []
 
 pub record Reply : Type 0 where
-  pub says : List ℕ
+  pub gave : List ℕ
   pub after : Table
 
 abbrev pub reply : List ℕ → Table → Reply
-reply xs t = record { says = xs; after = t }
+reply xs t = record { gave = xs; after = t }
 
-abbrev pub outcome : Outcome → Reply
-outcome o = reply (o .refusal ∷ value (o .previous)) (o .table)
+abbrev pub told : Outcome → Reply
+told o = reply (o .refusal ∷ numbers (o .previous)) (o .table)
 
-abbrev pub call : Room → Table → Call → Reply
-call room t (get k) = reply (value (getOf t k)) t
-call room t (set k v) = outcome (setOf room t k v)
-call room t (next k) = reply (nextValue (nextOf t k)) t
-call room t length? = reply (lengthOf t ∷ []) t
-call room t (reserve n) = outcome (reserveOf room t n)
-call room t record? = reply (length (t .array) ∷ t .allowance ∷ length (t .entries) ∷ []) t
+abbrev pub answer : Room → Table → Question → Reply
+answer room t (get k) = reply (numbers (getOf t k)) t
+answer room t (set k v) = told (setOf room t k v)
+answer room t (next k) = reply (nextValue (nextOf t k)) t
+answer room t length? = reply (lengthOf t ∷ []) t
+answer room t (reserve n) = told (reserveOf room t n)
+answer room t record? = reply (length (t .array) ∷ t .allowance ∷ length (t .entries) ∷ []) t
 
 abbrev pub equal : List ℕ → List ℕ → Bool
 equal [] [] = true
@@ -57,16 +57,16 @@ equal (x ∷ xs) [] = false
 equal (x ∷ xs) (y ∷ ys) = eqb x y && equal xs ys
 
 pub record Line : Type 0 where
-  pub asks : Call
+  pub asks : Question
   pub wants : List ℕ
 
 infixr 60 _gives_
-abbrev pub _gives_ : Call → List ℕ → Line
+abbrev pub _gives_ : Question → List ℕ → Line
 _gives_ c xs = record { asks = c; wants = xs }
 
 abbrev pub holds : Room → Table → List Line → Bool
 holds room t [] = true
-holds room t (l ∷ ls) = let r = call room t (l .asks) in equal (r .says) (l .wants) && holds room (r .after) ls
+holds room t (l ∷ ls) = let r = answer room t (l .asks) in equal (r .gave) (l .wants) && holds room (r .after) ls
 
 pub record Row : Type 0 where
   pub room : Room
@@ -89,10 +89,10 @@ string h = words 4 h
 
 -- done, with Nil before, and with yes before
 abbrev done : List ℕ
-done = 0 ∷ value nil
+done = 0 ∷ numbers nil
 
 abbrev doneYes : List ℕ
-doneYes = 0 ∷ value yes
+doneYes = 0 ∷ numbers yes
 
 abbrev int : ℕ → Line
 int n = set (integer n) yes gives done
@@ -107,7 +107,7 @@ sizes a m e = record? gives (a ∷ m ∷ e ∷ [])
 -- the walk hands out these keys, all with yes, and then ends
 abbrev walks : Words → List Words → List Line
 walks from [] = (next from gives (1 ∷ [])) ∷ []
-walks from (k ∷ ks) = (next from gives (0 ∷ value k ++ value yes)) ∷ walks k ks
+walks from (k ∷ ks) = (next from gives (0 ∷ numbers k ++ numbers yes)) ∷ walks k ks
 
 abbrev powers : ℕ → ℕ → List Line
 powers zero i = []
@@ -124,7 +124,7 @@ abbrev pub p3 : List Line
 p3 = p2 ++ (int 5 ∷ sizes 8 4 0 ∷ walks nil (integer 1 ∷ integer 2 ∷ integer 3 ∷ integer 4 ∷ integer 5 ∷ []))
 
 abbrev pub p4 : List Line
-p4 = str 1 ∷ str 2 ∷ str 3 ∷ str 4 ∷ (set (string 5) yes gives (3 ∷ value nil)) ∷ sizes 0 4 4 ∷ []
+p4 = str 1 ∷ str 2 ∷ str 3 ∷ str 4 ∷ (set (string 5) yes gives (3 ∷ numbers nil)) ∷ sizes 0 4 4 ∷ []
 
 abbrev pub p5 : List Line
 p5 = p4 ++ ((set (string 2) nil gives doneYes) ∷ str 5 ∷ (next (string 2) gives (2 ∷ [])) ∷ walks nil (string 1 ∷ string 3 ∷ string 4 ∷ string 5 ∷ []))
@@ -132,17 +132,17 @@ p5 = p4 ++ ((set (string 2) nil gives doneYes) ∷ str 5 ∷ (next (string 2) gi
 abbrev pub p6 : List Line
 p6 = p4
     ++ ((set (string 1) (integer 7) gives doneYes)
-    ∷ (next nil gives (0 ∷ value (string 1) ++ value (integer 7)))
+    ∷ (next nil gives (0 ∷ numbers (string 1) ++ numbers (integer 7)))
     ∷ walks (string 1) (string 2 ∷ string 3 ∷ string 4 ∷ []))
 
 abbrev pub p7 : List Line
-p7 = (set (number 0x8000000000000000) yes gives done) ∷ (get (integer 0) gives value yes) ∷ sizes 0 4 1 ∷ []
+p7 = (set (number 0x8000000000000000) yes gives done) ∷ (get (integer 0) gives numbers yes) ∷ sizes 0 4 1 ∷ []
 
 abbrev pub p8 : List Line
-p8 = p7 ++ ((set (number 0x7ff8000000000000) nil gives (2 ∷ value nil)) ∷ [])
+p8 = p7 ++ ((set (number 0x7ff8000000000000) nil gives (2 ∷ numbers nil)) ∷ [])
 
 abbrev pub p9 : List Line
-p9 = p7 ++ ((get nil gives value nil) ∷ [])
+p9 = p7 ++ ((get nil gives numbers nil) ∷ [])
 
 abbrev pub p10 : List Line
 p10 = (reserve 64 gives done) ∷ powers 63 0 ++ (int largest ∷ (length? gives (largest ∷ [])) ∷ [])
@@ -150,18 +150,65 @@ p10 = (reserve 64 gives done) ∷ powers 63 0 ++ (int largest ∷ (length? gives
 abbrev pub p11 : List Line
 p11 = p10 ++ ((set (integer largest) nil gives doneYes) ∷ (length? gives (2 ∷ [])) ∷ [])
 
--- two entries, one cleared: 2 more fit as they stand, 4 more never do, 3 more do once it is dropped
+-- ---- where the rules turn
+abbrev ints : ℕ → ℕ → List Line
+ints zero n = []
+ints (suc d) n = int (suc n) ∷ ints d (suc n)
+
+abbrev strs : ℕ → ℕ → List Line
+strs zero h = []
+strs (suc d) h = str (suc h) ∷ strs d (suc h)
+
+abbrev clear : Words → Line
+clear k = set k nil gives doneYes
+
+abbrev lengthIs : ℕ → Line
+lengthIs n = length? gives (n ∷ [])
+
+-- M doubles at a fifth and a ninth entry, as far as the room goes
+abbrev pub doubling : List Line
+doubling = strs 5 0 ++ (sizes 0 8 5 ∷ strs 4 5 ++ (sizes 0 12 9 ∷ []))
+
+-- six of eight entries cleared: the ninth key finds their places, and 8 are allowed still
+abbrev pub staying : List Line
+staying = strs 8 0 ++ (sizes 0 8 8 ∷ clear (string 1) ∷ clear (string 2) ∷ clear (string 3) ∷ clear (string 4) ∷ clear (string 5) ∷ clear (string 6) ∷ str 9 ∷ sizes 0 8 3 ∷ [])
+
+-- an array of more than 8 values; a new key past S is not counted below it; a value in an entry is
+abbrev pub sized : List Line
+sized =
+    ints 8 0
+    ++ (sizes 8 0 0 ∷ int 1000 ∷ sizes 8 4 1 ∷ int 10 ∷ sizes 8 4 2 ∷ int 9 ∷ sizes 8 4 3 ∷ str 1 ∷ sizes 8 4 4 ∷ str 2 ∷ sizes 16 8 3 ∷ lengthIs 10 ∷ [])
+
+-- the array never passes a: 9 candidates below 16 need room for 16
+abbrev pub roomless : List Line
+roomless = ints 9 0 ++ (sizes 8 4 1 ∷ [])
+
+-- after a NaN comes nothing, nor after a key that is not there
+abbrev pub lost : List Line
+lost = int 1 ∷ (next (number 0x7ff8000000000000) gives (2 ∷ [])) ∷ (next (integer 2) gives (2 ∷ [])) ∷ (next (number 0x3ff0000000000000) gives (1 ∷ [])) ∷ []
+
+-- the array ends in Nil, or in a value with a Nil before it; entries go on from there
+abbrev pub bordered : List Line
+bordered =
+    ints 4 0
+    ++ (str 1 ∷ clear (integer 2) ∷ lengthIs 4 ∷ int 5 ∷ sizes 4 4 2 ∷ lengthIs 5 ∷ clear (integer 5) ∷ lengthIs 4 ∷ clear (integer 4) ∷ lengthIs 1 ∷ [])
+
+-- two entries, one cleared: 2 more fit as they stand, 4 more never do, 3 more do once it is dropped, and M never falls
 abbrev pub reserves : List Line
 reserves =
     (reserve 4 gives done)
     ∷ str 1
     ∷ str 2
-    ∷ (set (string 1) nil gives doneYes)
+    ∷ clear (string 1)
     ∷ (reserve 2 gives done)
     ∷ sizes 0 4 2
-    ∷ (reserve 4 gives (3 ∷ value nil))
+    ∷ (reserve 4 gives (3 ∷ numbers nil))
     ∷ walks (string 1) (string 2 ∷ [])
-    ++ ((reserve 3 gives done) ∷ sizes 0 4 1 ∷ (next (string 1) gives (2 ∷ [])) ∷ [])
+    ++ ((reserve 3 gives done)
+    ∷ sizes 0 4 1
+    ∷ (next (string 1) gives (2 ∷ []))
+    ∷ strs 3 2
+    ++ (clear (string 3) ∷ clear (string 4) ∷ (reserve 1 gives done) ∷ sizes 0 4 2 ∷ []))
 
 abbrev pub rows : List Row
 rows =
@@ -176,5 +223,11 @@ rows =
     ∷ row 16 16 p9
     ∷ row 0 64 p10
     ∷ row 0 64 p11
+    ∷ row 0 12 doubling
+    ∷ row 0 16 staying
+    ∷ row 32 16 sized
+    ∷ row 15 16 roomless
+    ∷ row 16 16 lost
+    ∷ row 16 16 bordered
     ∷ row 0 4 reserves
     ∷ []

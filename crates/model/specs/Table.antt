@@ -35,12 +35,12 @@ abbrev pub offset : ArrayIndex → ℕ
 offset (At i) = i
 offset Nothing = 0
 
--- whether a key has an array index below A, and that index
+-- whether a key has an array index below A, and that place
 unfoldable pub within : ℕ → Words → Bool
 within A k = below A (arrayIndex k)
 
-abbrev pub indexOf : Words → ℕ
-indexOf k = offset (arrayIndex k)
+abbrev pub placeOf : Words → ℕ
+placeOf k = offset (arrayIndex k)
 
 -- the array's pairs, n of them before
 abbrev pub arrayPairs : ℕ → List Words → List Entry
@@ -53,7 +53,7 @@ pairs t = arrayPairs 0 (t .array) ++ t .entries
 
 -- the value of a canonical key
 unfoldable pub lookup : Table → Words → Words
-lookup t k = cond (within (length (t .array)) k) (getD (t .array) (indexOf k) nil) (find (t .entries) k)
+lookup t k = cond (within (length (t .array)) k) (getD (t .array) (placeOf k) nil) (find (t .entries) k)
 
 unfoldable pub getOf : Table → Words → Words
 getOf t key = onKey (canonicalKey key) (λ n. nil) (lookup t)

@@ -1,31 +1,31 @@
 -- A well-formed table of a room: 01's sound store without its words, clause by clause in the order of a fault finder. Assumes nothing.
 use mathlib.Core.Path.{_≡_}
-use mathlib.Core.Bool.{true, false}
+use mathlib.Core.Bool.{false}
 use mathlib.Core.Logic.{_⊎_}
-use Prim.Native.Nat.{ℕ, _^_, _≤_}
+use Prim.Native.Nat.{ℕ, _^_, _≤_, _<_}
 use lib.ListN.{length}
-use Rattle.value.specs.declared.Words.{Words}
-use Rattle.value.specs.Encoding.{decodes}
+use Rattle.value.specs.Encoding.{Decodes}
 use Rattle.key.specs.declared.CanonicalKey.the-variants.{Key}
 use Rattle.key.specs.Canonical.{canonicalKey}
-use Rattle.model.specs.Entries.{keysOf, distinct, has, Each}
+use Rattle.model.specs.Entries.{keysOf, distinct, Each}
 use Rattle.model.specs.Table.{Room, Table, within}
 
-abbrev pub Decodes : Words → Type 0
-Decodes w = decodes w ≡ true
+-- a room whose array has Integers for its keys, and whose class counts reach as far as its array
+pub record Fair (room : Room) : Type 0 where
+  pub integers : room .arrayRoom ≤ 2 ^ 62
+  pub counted : room .arrayRoom < 2 ^ room .classes
 
 abbrev pub ZeroOrPower : ℕ → Type 0
 ZeroOrPower n = (n ≡ 0) ⊎ ((i : ℕ) × (n ≡ 2 ^ i))
 
 pub record WellFormed (room : Room) (t : Table) : Type 0 where
-  -- every array index has an Integer for its key
-  pub inRange : room .arrayRoom ≤ 2 ^ 62
+  pub fair : Fair room
   pub arrayFits : length (t .array) ≤ room .arrayRoom
   pub entriesFit : length (t .entries) ≤ t .allowance
   pub allowanceFits : t .allowance ≤ room .entryRoom
   pub power : ZeroOrPower (length (t .array))
   pub arrayDecodes : Each Decodes (t .array)
   pub entriesDecode : Each (λ s. Decodes (s .key) × Decodes (s .value)) (t .entries)
-  pub canonical : (k : Words) → has (t .entries) k ≡ true → canonicalKey k ≡ Key k
-  pub outside : (k : Words) → has (t .entries) k ≡ true → within (length (t .array)) k ≡ false
+  pub canonical : Each (λ s. canonicalKey (s .key) ≡ Key (s .key)) (t .entries)
+  pub outside : Each (λ s. within (length (t .array)) (s .key) ≡ false) (t .entries)
   pub apart : distinct (keysOf (t .entries))

@@ -4,12 +4,10 @@ use mathlib.Core.Path.{_≡_, refl, sym, ap, ap₂, subst, _∙_}
 use mathlib.Core.Bool.{cond}
 use mathlib.Core.List.{List, _∷_}
 use mathlib.Core.Logic.{inl, inr}
-use Prim.Native.Nat.{ℕ, _+_, _-_, _^_, _≤_}
-use lib.Dec.{leb, ltb}
-use lib.ListN.{length}
+use Prim.Native.Nat.{ℕ}
 use Rattle.value.specs.declared.Words.{Words}
+use Rattle.value.specs.Encoding.{Decodes}
 use Rattle.value.specs.Same.{same, nil}
-use Rattle.value.proofs.Cases.{caseb}
 use Rattle.key.specs.declared.CanonicalKey.the-variants.{Key}
 use Rattle.key.specs.Refusals.{noRoom}
 use Rattle.key.specs.Canonical.{canonicalKey}
@@ -17,9 +15,10 @@ use Rattle.key.proofs.Own.{by-key, canonical-own}
 use Rattle.model.specs.Entries.{keep, live, Each}
 use Rattle.model.specs.Table.{Room, Table, fresh, pairs, lookup, getOf, nextOf}
 use Rattle.model.specs.Calls.{Outcome, setOf, reserveOf}
-use Rattle.model.specs.WellFormed.{WellFormed, Decodes}
+use Rattle.model.specs.WellFormed.{Fair, WellFormed}
 use Rattle.model.proofs.Map.{set-key, set-no-key, Sets, set-sets, reserve-lookup}
 use Rattle.model.proofs.Kept.{fresh-kept, setOf-kept, reserve-kept}
+use Rattle.model.proofs.Refusals.{reserve-either}
 use Rattle.model.proofs.Next.{lists-one, next-lists}
 use Rattle.original.specs.Original.{Cell, Original, new, Choice, Answered, withMap, originalGet, originalSet, originalReserve, originalNext}
 use Rattle.original.specs.Runs.{Answer, value, was, ours, told, Roomy, Call, Shuffled, Runs, stopped, got, written, reserved, Kinds, Known, Comparable}
@@ -27,7 +26,7 @@ use Rattle.original.specs.Agreement.{Agree}
 use Rattle.original.proofs.View.{view}
 use Rattle.original.proofs.Order.{shuffled-find}
 use Rattle.original.proofs.Right.{Right, right-new, right-shuffled}
-use Rattle.original.proofs.Sets.{key-known, Steps, original-sets, original-refuses, reserve-right, reserve-same, original-get}
+use Rattle.original.proofs.Sets.{key-known, Steps, original-sets, original-refuses, reserve-right, reserve-view, original-get}
 use Rattle.original.proofs.Walks.{original-lists, same-pairs}
 use Rattle.original.proofs.Lengths.{same-length}
 
@@ -91,16 +90,11 @@ module _ (room : Room) (kinds : Kinds) (t : Table) (r : Original) (g : Together 
   same-reserve : (c : Choice) (n : ℕ) → ((reserveOf room t n) .refusal ≡ noRoom → ⊥)
       → (told (reserveOf room t n) ≡ was 0 nil) × Together room kinds ((reserveOf room t n) .table) (originalReserve c r)
   same-reserve c n h = (
-    unfold reserveOf in
-        caseb (leb n (t .allowance - length (t .entries)))
-        (λ b. rw b)
-        (λ b. rw b (caseb (ltb (room .entryRoom) (length (keep live (t .entries)) + n))
-        (λ d. absurd (h (rw (b, d))))
-        (λ d. rw d))),
+    elim (reserve-either room t n) [ inl x ↦ absurd (h (ap (λ (o : Outcome). o .refusal) (x .0))) | inr x ↦ ap₂ was (x .0) (x .1) ],
     record {
       here = reserve-kept room t n (g .here);
       there = reserve-right kinds c r (g .there);
-      maps = λ j. reserve-lookup room t n j (g .here) ∙ g .maps j ∙ sym (reserve-same kinds c r j (g .there));
+      maps = λ j. reserve-lookup room t n j (g .here) ∙ g .maps j ∙ sym (reserve-view kinds c r j (g .there));
     },
   )
 
@@ -120,7 +114,7 @@ together room kinds t {r = r} g a o (reserved c n f s) =
     let rest : _ = together room kinds ((reserveOf room t n) .table) (reordered room kinds ((reserveOf room t n) .table) (originalReserve c r) (one .1) f) (a .1) (o .1) s in
     (ap₂ {C = List Answer} (λ x y. x ∷ y) (one .0) (rest .0), rest .1)
 
-pub demand2 : (room : Room) → room .arrayRoom ≤ 2 ^ 62 → (kinds : Kinds) (cs : List Call) → Each (Comparable kinds) cs → Roomy ((ours room fresh cs) .said) → (xs : List Answer) (r : Original)
+pub demand2 : (room : Room) → Fair room → (kinds : Kinds) (cs : List Call) → Each (Comparable kinds) cs → Roomy ((ours room fresh cs) .said) → (xs : List Answer) (r : Original)
     → Runs new cs xs r → ((ours room fresh cs) .said ≡ xs) × Agree kinds ((ours room fresh cs) .finally) r
 demand2 room h kinds cs a o xs r s =
     let all : _ = together room kinds fresh (record { here = fresh-kept room h; there = right-new kinds; maps = λ j. refl }) a o s in

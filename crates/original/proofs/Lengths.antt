@@ -7,7 +7,7 @@ use Prim.Native.Nat.{ℕ, zero, suc, pred, _+_, _≤_, _<_}
 use native.Mathlib.Nat.{not-suc-le-zero}
 use native.Mathlib.Omega.{arith}
 use lib.Dec.{eqb, leb}
-use lib.ListN.{length, getD}
+use lib.ListN.{length, getD, length-map}
 use borrow.Author.Tests.{eq-eqb, not-true}
 use Rattle.value.specs.declared.Words.{Words}
 use Rattle.value.specs.Same.{nil, isNil}
@@ -23,7 +23,7 @@ use Rattle.model.proofs.Border.{halve-cong, Doubled, double-is, get-integer, pa
 use Rattle.original.specs.Original.{Original, hasCell, findCell, originalLength}
 use Rattle.original.specs.Runs.{Kinds}
 use Rattle.original.specs.Agreement.{ClearedLargest}
-use Rattle.original.proofs.View.{cells, view, hasCell-shown, findCell-shown, length-cells}
+use Rattle.original.proofs.View.{shownCell, cells, view, hasCell-shown, findCell-shown}
 use Rattle.original.proofs.Right.{Right}
 use Rattle.original.proofs.Sets.{integer-known}
 
@@ -43,37 +43,37 @@ module _ (kinds : Kinds) (r : Original) (s : Right kinds r) where
   there = fun-ext (λ n. hasCell-shown kinds (r .map) (integer n) (integer-known kinds n))
 
   -- where doubling ends at a key that is there, that is the largest integer, with a value
-  ends : (hi : ℕ) → Doubled (λ n. has (cells kinds (r .map)) (integer n)) (length (r .array) + 1) hi → (ClearedLargest r → ⊥)
+  ends : (hi : ℕ) → Doubled (λ n. has (cells kinds (r .map)) (integer n)) (length (r .array) + 1) hi
+      → (hi ≡ largest → hasCell (r .map) (integer hi) ≡ true → isNil (findCell (r .map) (integer hi)) ≡ true → ⊥)
       → hasCell (r .map) (integer hi) ≡ (eqb hi largest && not (nilAt (view kinds r) hi))
-  ends hi d c = hasCell-shown kinds (r .map) (integer hi) (integer-known kinds hi) ∙ iff (has (cells kinds (r .map)) (integer hi)) (eqb hi largest && not (nilAt (view kinds r) hi)) (to (d .stops)) (back hi (d .low) (d .high))
+  ends hi d c = iff (hasCell (r .map) (integer hi)) (eqb hi largest && not (nilAt (view kinds r) hi)) (to (d .stops)) (back hi (d .low))
     where
-      is : nilAt (view kinds r) hi ≡ isNil (findCell (r .map) (integer hi))
-      is = sym (past-it hi (omega (arith, d .low)) (d .high))
+      is : (n : ℕ) → hasCell (r .map) (integer n) ≡ has (cells kinds (r .map)) (integer n)
+      is n = hasCell-shown kinds (r .map) (integer n) (integer-known kinds n)
 
-      to : (has (cells kinds (r .map)) (integer hi) ≡ false) ⊎ (hi ≡ largest) → has (cells kinds (r .map)) (integer hi) ≡ true → (eqb hi largest && not (nilAt (view kinds r) hi)) ≡ true
-      to (inl f) t = clash t f
+      to : (has (cells kinds (r .map)) (integer hi) ≡ false) ⊎ (hi ≡ largest) → hasCell (r .map) (integer hi) ≡ true → (eqb hi largest && not (nilAt (view kinds r) hi)) ≡ true
+      to (inl f) t = clash (sym (is hi) ∙ t) f
       to (inr p) t =
           caseb (nilAt (view kinds r) hi)
-          (λ z. absurd (c (subst (λ (n : ℕ). (hasCell (r .map) (integer n) ≡ true) × (isNil (findCell (r .map) (integer n)) ≡ true)) p
-          (hasCell-shown kinds (r .map) (integer hi) (integer-known kinds hi) ∙ t, sym is ∙ z))))
+          (λ z. absurd (c p t (past-it hi (omega (arith, d .low)) (d .high) ∙ z)))
           (λ z. rw (eq-eqb hi largest p, z))
 
-      back : (n : ℕ) → length (r .array) + 1 ≤ n → n ≤ largest → (eqb n largest && not (nilAt (view kinds r) n)) ≡ true → has (cells kinds (r .map)) (integer n) ≡ true
-      back zero l h t = absurd (not-suc-le-zero {n = 0} (omega arith))
-      back (suc n) l h t =
+      back : (n : ℕ) → length (r .array) + 1 ≤ n → (eqb n largest && not (nilAt (view kinds r) n)) ≡ true → hasCell (r .map) (integer n) ≡ true
+      back zero l t = absurd (not-suc-le-zero {n = 0} (omega arith))
+      back (suc n) l t =
           caseb (has (cells kinds (r .map)) (integer (suc n)))
-          (λ y. y)
+          (λ y. is (suc n) ∙ y)
           (λ f. clash (past-array (view kinds r) n (omega arith) f) (not-true (nilAt (view kinds r) (suc n)) (and-right (eqb (suc n) largest) (not (nilAt (view kinds r) (suc n))) t)))
 
   pub original-length : (ClearedLargest r → ⊥) → originalLength r ≡ lengthOf (view kinds r)
   unfolding originalLength lengthOf
-  original-length c =
-      rw (there, ends hi dd c, length-cells kinds (r .map))
+  original-length x =
+      rw (there, length-map (r .map) (shownCell kinds))
       (caseb (leb 1 A && isNil (getD (r .array) (pred A) nil))
       (λ b. rw b (halve-cong (λ n. isNil (getD (r .array) (pred n) nil)) (nilAt (view kinds r)) 64 0 A in-place))
       (λ b. rw b (caseb (eqb (length (r .map)) 0)
       (λ e. rw e)
-      (λ e. rw e (ap (cond (eqb hi largest && not (nilAt (view kinds r) hi)) hi) (halve-cong (λ n. isNil (findCell (r .map) (integer n))) (nilAt (view kinds r)) 64 A hi (λ n h g. past-it n h (omega (arith, dd .high)))))))))
+      (λ e. rw (e, ends hi dd (cleared b e)) (ap (cond (eqb hi largest && not (nilAt (view kinds r) hi)) hi) (halve-cong (λ n. isNil (findCell (r .map) (integer n))) (nilAt (view kinds r)) 64 A hi (λ n h g. past-it n h (omega (arith, dd .high)))))))))
     where
       A : ℕ
       A = length (r .array)
@@ -83,6 +83,9 @@ module _ (kinds : Kinds) (r : Original) (s : Right kinds r) where
 
       dd : Doubled (λ n. has (cells kinds (r .map)) (integer n)) (A + 1) hi
       dd = double-is (λ n. has (cells kinds (r .map)) (integer n)) 64 0 (A + 1) (omega arith) (omega arith) (omega (arith, s .inRange)) (inl (omega arith))
+
+      cleared : (leb 1 A && isNil (getD (r .array) (pred A) nil)) ≡ false → eqb (length (r .map)) 0 ≡ false → hi ≡ largest → hasCell (r .map) (integer hi) ≡ true → isNil (findCell (r .map) (integer hi)) ≡ true → ⊥
+      cleared b e p h z = x (rw (there, b, e, h) p, subst (λ (n : ℕ). hasCell (r .map) (integer n) ≡ true) p h, subst (λ (n : ℕ). isNil (findCell (r .map) (integer n)) ≡ true) p z)
 
 -- the border of one table is a border of the other where their gets are the same
 carried-border : (t u : Table) (n : ℕ) → ((j : Words) → lookup t j ≡ lookup u j) → Border u n → Border t n

@@ -2,7 +2,7 @@
 -- the new value at that key and is as before elsewhere. Growth and reserve change no value. Assumes nothing.
 use mathlib.Core.Path.{_≡_, refl, sym, ap, _∙_, fun-ext}
 use mathlib.Core.Bool.{Bool, true, false, cond, true≢false}
-use mathlib.Core.List.{List, [], _∷_}
+use mathlib.Core.List.{List, [], _∷_, map-append}
 use mathlib.Core.Logic.{inl, inr}
 use Prim.Native.Nat.{ℕ, suc, _≤_, _<_, max}
 use native.Mathlib.Omega.{arith}
@@ -17,17 +17,17 @@ use Rattle.key.specs.declared.CanonicalKey.the-variants.{Key, No}
 use Rattle.key.specs.Canonical.{integer, largest, canonicalKey}
 use Rattle.key.proofs.Own.{by-key, key-ways}
 use Rattle.key.proofs.Original.{original-key, original-index}
-use Rattle.model.specs.Entries.{Entry, has, find}
-use Rattle.model.specs.Table.{Table, within, indexOf, lookup, getOf}
+use Rattle.model.specs.Entries.{Entry, has, find, keep}
+use Rattle.model.specs.Table.{Table, within, placeOf, lookup, getOf}
 use Rattle.model.specs.Growth.{tabulate, rehashed}
 use Rattle.model.specs.Calls.{Outcome}
 use Rattle.model.proofs.Entries.{find-absent}
 use Rattle.model.proofs.Array.{index-integer, within-integer, outside-integer, lookup-array, lookup-within, lookup-outside, lookup-absent}
 use Rattle.model.proofs.Map.{Sets, writeArray-lookup, writeEntry-lookup, append-lookup, nil-again, rehashed-lookup, purged-lookup}
-use Rattle.original.specs.Original.{MapKey, alive, dead, cell, Original, killed, revived, hasCell, findCell, writeCell, keepCells, hasValue, Choice, Answered, answered, withArray, withMap, reserved, valueAt, resized, grown, originalGet, originalSet, originalReserve}
+use Rattle.original.specs.Original.{MapKey, alive, dead, cell, Original, killed, revived, hasCell, findCell, writeCell, hasValue, Choice, Answered, answered, withArray, withMap, setReserved, valueAt, resized, grown, originalGet, originalSet, originalReserve}
 use Rattle.original.specs.Runs.{Kinds, Known}
-use Rattle.original.proofs.View.{shown, cells, view, hasCell-shown, findCell-shown, writeCell-shown, cells-append, killed-shown, revived-shown}
-use Rattle.original.proofs.Right.{Placed, Lively, Right, right-array, right-write, right-append, right-purged, right-resized, staying-cells, live-cells}
+use Rattle.original.proofs.View.{shown, shownCell, cells, view, hasCell-shown, findCell-shown, writeCell-shown, killed-shown, revived-shown}
+use Rattle.original.proofs.Right.{Placed, Lively, Right, there, right-array, right-write, right-append, right-purged, right-resized, staying-cells, live-cells}
 
 pub integer-known : (kinds : Kinds) (n : ℕ) → Known kinds (integer n)
 integer-known kinds n o = absurd (true≢false (sym o))
@@ -37,16 +37,16 @@ pub key-known : (kinds : Kinds) (key k : Words) → Known kinds key → canonica
 key-known kinds key k n e = elim (key-ways key k e) [ inl a ↦ rw (a .1) (integer-known kinds (a .0)) | inr a ↦ rw (a .0) n ]
 
 module _ (kinds : Kinds) where
-  abbrev pub outcome : Answered → Outcome
-  outcome a = record { refusal = a .refusal; previous = a .previous; table = view kinds (a .now) }
+  abbrev pub asOutcome : Answered → Outcome
+  asOutcome a = record { refusal = a .refusal; previous = a .previous; table = view kinds (a .now) }
 
   -- a set of the original's that is done
   pub record Steps (m : Words → Words) (k v : Words) (a : Answered) : Type 0 where
-    pub sets : Sets m k v (outcome a)
+    pub sets : Sets m k v (asOutcome a)
     pub right : Right kinds (a .now)
 
-  pub numbered : (r : Original) → Right kinds r → length (r .array) ≤ largest
-  numbered r s = omega (arith, s .inRange)
+  pub view-numbered : (r : Original) → Right kinds r → length (r .array) ≤ largest
+  view-numbered r s = omega (arith, s .inRange)
 
   -- ---- growth is our growth to that size
   nil-or : (v : Words) → cond (isNil v) nil v ≡ v
@@ -65,7 +65,7 @@ module _ (kinds : Kinds) where
       rw (List·getD-eq-default (r .array) nil h) (nil-or (find (cells kinds (r .map)) k) ∙ sym (lookup-outside (view kinds r) k (outside-integer (length (r .array)) i h)))))
     where
       ours : (k : Words) → within (length (r .array)) k ≡ true → has (cells kinds (r .map)) k ≡ false
-      ours k e = caseb (has (cells kinds (r .map)) k) (λ h. clash e (s .placed k h .outside)) (λ h. h)
+      ours k e = caseb (has (cells kinds (r .map)) k) (λ h. clash e (there kinds r s k h .outside)) (λ h. h)
 
   view-resized : (r : Original) (size : ℕ) → Right kinds r → length (r .array) < size → view kinds (resized r size) ≡ rehashed (view kinds r) size
   unfolding resized rehashed
@@ -86,13 +86,13 @@ module _ (kinds : Kinds) where
 
   -- ---- the three writes
   abbrev pub atPlace : Original → Words → Words → Answered
-  atPlace r k v = answered 0 (getD (r .array) (indexOf k) nil) (withArray r (set (r .array) (indexOf k) v))
+  atPlace r k v = answered 0 (getD (r .array) (placeOf k) nil) (withArray r (set (r .array) (placeOf k) v))
 
   at-place : (r : Original) (k v : Words) → Right kinds r → within (length (r .array)) k ≡ true → Steps (lookup (view kinds r)) k v (atPlace r k v)
   at-place r k v s b =
       record {
-        sets = record { ok = refl; previously = sym (lookup-within (view kinds r) k b); now = λ j. writeArray-lookup (view kinds r) k v j (numbered r s) b };
-        right = right-array kinds r s (indexOf k) v;
+        sets = record { ok = refl; previously = sym (lookup-within (view kinds r) k b); now = λ j. writeArray-lookup (view kinds r) k v j (view-numbered r s) b };
+        right = right-array kinds r s (placeOf k) v;
       }
 
   -- the cell of a key written, its shown key as it is
@@ -105,13 +105,13 @@ module _ (kinds : Kinds) where
           ok = refl;
           previously = findCell-shown kinds (r .map) k (p .known) ∙ sym (lookup-outside (view kinds r) k (p .outside));
           now = λ j. ap (λ (l : List Entry). lookup (record { array = r .array; entries = l; allowance = 0 }) j) (writeCell-shown kinds (r .map) k f v (p .known) g)
-              ∙ writeEntry-lookup (view kinds r) k v j (numbered r s) (p .outside) h;
+              ∙ writeEntry-lookup (view kinds r) k v j (view-numbered r s) (p .outside) h;
         };
         right = right-write kinds r s k f v (p .known) g l;
       }
 
-  in-map : (r : Original) (k v : Words) → Right kinds r → Placed kinds (length (r .array)) k → Steps (lookup (view kinds r)) k v (reserved r k v)
-  unfolding reserved
+  in-map : (r : Original) (k v : Words) → Right kinds r → Placed kinds (length (r .array)) k → Steps (lookup (view kinds r)) k v (setReserved r k v)
+  unfolding setReserved
   in-map r k v s p =
       let is : hasCell (r .map) k ≡ has (cells kinds (r .map)) k = hasCell-shown kinds (r .map) k (p .known) in
       rw is (caseb (has (cells kinds (r .map)) k)
@@ -120,8 +120,8 @@ module _ (kinds : Kinds) where
         sets = record {
           ok = refl;
           previously = sym (lookup-absent (view kinds r) k (p .outside) h);
-          now = λ j. ap (λ (l : List Entry). lookup (record { array = r .array; entries = l; allowance = 0 }) j) (cells-append kinds (r .map) (cell (alive k) v ∷ []))
-              ∙ append-lookup (view kinds r) k v j (numbered r s) 0 (p .outside) h;
+          now = λ j. ap (λ (l : List Entry). lookup (record { array = r .array; entries = l; allowance = 0 }) j) (map-append (shownCell kinds) (r .map) (cell (alive k) v ∷ []))
+              ∙ append-lookup (view kinds r) k v j (view-numbered r s) 0 (p .outside) h;
         };
         right = right-append kinds r s k v p h;
       })))
@@ -178,9 +178,9 @@ module _ (kinds : Kinds) where
   unfolding originalReserve
   reserve-right c r s = caseb (c .room) (λ e. rw e s) (λ e. rw e (right-purged kinds r s))
 
-  pub reserve-same : (c : Choice) (r : Original) (j : Words) → Right kinds r → lookup (view kinds (originalReserve c r)) j ≡ lookup (view kinds r) j
+  pub reserve-view : (c : Choice) (r : Original) (j : Words) → Right kinds r → lookup (view kinds (originalReserve c r)) j ≡ lookup (view kinds r) j
   unfolding originalReserve
-  reserve-same c r j s = caseb (c .room) (λ e. rw e) (λ e. rw e (purged-lookup (view kinds r) (view kinds (withMap r (keepCells hasValue (r .map)))) j (s .apart) refl (live-cells kinds r s)))
+  reserve-view c r j s = caseb (c .room) (λ e. rw e) (λ e. rw e (purged-lookup (view kinds r) (view kinds (withMap r (keep hasValue (r .map)))) j (s .apart) refl (live-cells kinds r s)))
 
   -- ---- get
   pub original-get : (r : Original) (key : Words) → Right kinds r → Known kinds key → originalGet r key ≡ getOf (view kinds r) key

@@ -2,11 +2,10 @@
 -- write of the map is the search or write of its view. Assumes nothing.
 use mathlib.Core.Path.{_≡_, refl, sym, ap, subst, _∙_}
 use mathlib.Core.Bool.{Bool, false, _&&_, and-false}
-use mathlib.Core.List.{List, [], _∷_, _++_}
-use Prim.Native.Nat.{ℕ, suc}
+use mathlib.Core.List.{List, [], _∷_, map}
+use Prim.Native.Nat.{ℕ}
 use native.Mathlib.Omega.{arith}
 use lib.Dec.{eqb}
-use lib.ListN.{length}
 use borrow.Author.Tests.{eqb-true, eq-eqb, ne-eqb, leb-true, leb-false}
 use Rattle.value.specs.declared.Words.{Words}
 use Rattle.value.specs.Encoding.{words}
@@ -18,7 +17,7 @@ use Rattle.key.specs.Canonical.{canonicalKey, arrayIndex}
 use Rattle.key.proofs.Original.{original-index}
 use Rattle.model.specs.Entries.{Entry, entry, has, find, put, keep, Each}
 use Rattle.model.specs.Table.{Table}
-use Rattle.original.specs.Original.{MapKey, alive, dead, Cell, Original, isObject, matches, killed, revived, hasCell, findCell, writeCell, keepCells, mapIndex}
+use Rattle.original.specs.Original.{MapKey, alive, dead, Cell, Original, isObject, matches, killed, revived, hasCell, findCell, writeCell, mapIndex}
 use Rattle.original.specs.Runs.{Kinds, Known}
 
 module _ (kinds : Kinds) where
@@ -30,8 +29,7 @@ module _ (kinds : Kinds) where
   shownCell c = entry (shown (c .key)) (c .value)
 
   abbrev pub cells : List Cell → List Entry
-  cells [] = []
-  cells (c ∷ cs) = shownCell c ∷ cells cs
+  cells cs = map shownCell cs
 
   abbrev pub view : Original → Table
   view r = record { array = r .array; entries = cells (r .map); allowance = 0 }
@@ -86,17 +84,9 @@ module _ (kinds : Kinds) where
       (λ o. rw o)
   killed-shown k n (dead h) p = refl
 
-  pub cells-append : (l m : List Cell) → cells (l ++ m) ≡ cells l ++ cells m
-  cells-append [] m = refl
-  cells-append (c ∷ cs) m = rw (cells-append cs m)
-
-  pub length-cells : (cs : List Cell) → length (cells cs) ≡ length cs
-  length-cells [] = refl
-  length-cells (c ∷ cs) = ap suc (length-cells cs)
-
-  pub keepCells-shown : (p : Cell → Bool) (q : Entry → Bool) (cs : List Cell) → Each (λ c. p c ≡ q (shownCell c)) cs → cells (keepCells p cs) ≡ keep q (cells cs)
-  keepCells-shown p q [] a = refl
-  keepCells-shown p q (c ∷ cs) a = rw (a .0) (caseb (q (shownCell c)) (λ e. rw (e, keepCells-shown p q cs (a .1))) (λ e. rw (e, keepCells-shown p q cs (a .1))))
+  pub keep-shown : {P : Cell → Type 0} (p : Cell → Bool) (q : Entry → Bool) (cs : List Cell) → ((c : Cell) → P c → p c ≡ q (shownCell c)) → Each P cs → cells (keep p cs) ≡ keep q (cells cs)
+  keep-shown p q [] f a = refl
+  keep-shown p q (c ∷ cs) f a = rw (f c (a .0)) (caseb (q (shownCell c)) (λ e. rw (e, keep-shown p q cs f (a .1))) (λ e. rw (e, keep-shown p q cs f (a .1))))
 
   -- the index of a canonical key, and no object has one
   pub mapIndex-shown : (c : MapKey) → canonicalKey (shown c) ≡ Key (shown c) → mapIndex c ≡ arrayIndex (shown c)

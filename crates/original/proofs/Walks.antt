@@ -1,16 +1,15 @@
 -- A walk of the original's by `next` lists the pairs of its view, so after the same calls the two walks list the same pairs, each once,
 -- whatever their order. Assumes nothing.
 use mathlib.Core.Path.{_≡_, refl, sym, ap, _∙_}
-use mathlib.Core.Bool.{true, false, not, true≢false}
+use mathlib.Core.Bool.{true, false, not}
 use mathlib.Core.List.{List, [], _∷_, _++_}
-use Prim.Native.Nat.{ℕ, zero, suc, _+_, _<_}
-use native.Mathlib.Nat.{le-of-suc-le-suc, not-suc-le-zero}
+use Prim.Native.Nat.{suc}
 use native.Mathlib.Omega.{arith}
 use lib.Dec.{eqb}
 use lib.ListN.{length, drop}
 use Rattle.value.specs.declared.Words.{Words}
-use Rattle.value.specs.Same.{same, nil, isNil}
-use Rattle.value.proofs.Cases.{caseb}
+use Rattle.value.specs.Same.{nil, isNil}
+use Rattle.value.proofs.Cases.{caseb, never}
 use Rattle.key.specs.declared.CanonicalKey.the-variants.{Key}
 use Rattle.key.specs.Canonical.{integer, canonicalKey}
 use Rattle.key.proofs.Own.{canonical-integer}
@@ -18,28 +17,18 @@ use Rattle.key.proofs.Original.{original-key, original-index}
 use Rattle.model.specs.Entries.{Entry, keysOf, distinct, has, keep, live, Each, first, from}
 use Rattle.model.specs.Table.{within, arrayPairs, pairs, lookup}
 use Rattle.model.specs.Manual.{Lists, PairsOf}
-use Rattle.model.proofs.Array.{is-first, not-first, next-place, Inside, inside, has-array-within, key-of-pairs, find-pairs, distinct-pairs}
-use Rattle.model.proofs.Next.{lists, live-pairs}
+use Rattle.model.proofs.Array.{Inside, inside, has-array-within, key-of-pairs, find-pairs, distinct-pairs}
+use Rattle.model.proofs.Next.{from-array, from-append-not, lists, live-pairs}
 use Rattle.original.specs.Original.{Cell, Original, foundAt, firstCell, fromCell, firstPair, originalNext}
 use Rattle.original.specs.Runs.{Kinds, Known}
 use Rattle.original.specs.Agreement.{SamePairs}
-use Rattle.original.proofs.View.{shown, cells, view, matches-shown}
-use Rattle.original.proofs.Right.{Lively, Right}
-use Rattle.original.proofs.Sets.{integer-known, numbered}
-
--- ---- our `from` on joined lists
-from-array : (vs : List Words) (n i : ℕ) (k : Words) (m : List Entry) → k ≡ integer (suc (n + i)) → i < length vs → from (arrayPairs n vs ++ m) k ≡ first (drop (suc i) (arrayPairs n vs) ++ m)
-from-array [] n i k m p h = absurd (not-suc-le-zero h)
-from-array (v ∷ vs) n zero k m p h = rw (is-first n k p)
-from-array (v ∷ vs) n (suc i) k m p h = rw (not-first n i k p) (from-array vs (suc n) i k m (next-place n i k p) (le-of-suc-le-suc h))
-
-from-append-not : (l m : List Entry) (k : Words) → has l k ≡ false → from (l ++ m) k ≡ from m k
-from-append-not [] m k h = refl
-from-append-not (s ∷ ss) m k h = caseb (same (s .key) k) (λ e. absurd (true≢false (rw e at h))) (λ e. rw e (from-append-not ss m k (rw e at h)))
+use Rattle.original.proofs.View.{cells, view, matches-shown}
+use Rattle.original.proofs.Right.{Lively, Right, there}
+use Rattle.original.proofs.Sets.{integer-known, view-numbered}
 
 not-nil : (k : Words) → canonicalKey k ≡ Key k → eqb (k .kind) 0 ≡ false
 unfolding canonicalKey
-not-nil k c = caseb (eqb (k .kind) 0) (λ e. let q = rw e at c in let z : _≡_ {A = ℕ} 0 1 = cc in absurd (omega arith)) (λ e. e)
+not-nil k c = caseb (eqb (k .kind) 0) (λ e. let q = rw e at c in never (cc)) (λ e. e)
 
 module _ (kinds : Kinds) where
   -- ---- the map, its cells with a value alive
@@ -72,20 +61,20 @@ module _ (kinds : Kinds) where
       rw (b, x .index) (firstPair-shown (drop (suc (x .i)) (arrayPairs 0 (r .array))) (r .map) (s .lively)
       ∙ sym (from-array (r .array) 0 (x .i) k (cells kinds (r .map)) (x .is ∙ ap integer (omega arith)) (x .i<))))
       (λ b. rw (b, not-nil k c) (fromCell-shown (r .map) k n (s .lively)
-      ∙ sym (from-append-not (arrayPairs 0 (r .array)) (cells kinds (r .map)) k (has-array-within (r .array) k (numbered kinds r s) ∙ b)))))
+      ∙ sym (from-append-not (arrayPairs 0 (r .array)) (cells kinds (r .map)) k (has-array-within (r .array) k (view-numbered kinds r s) ∙ b)))))
 
   -- a key of the view is canonical and known
   pair-key : (r : Original) (k : Words) → Right kinds r → has (pairs (view kinds r)) k ≡ true → (canonicalKey k ≡ Key k) × Known kinds k
   pair-key r k s h =
-      key-of-pairs (λ x. (canonicalKey x ≡ Key x) × Known kinds x) (view kinds r) (numbered kinds r s) (λ n. (canonical-integer n, integer-known kinds n)) (λ x e. (s .placed x e .canonical, s .placed x e .known)) k h
+      key-of-pairs (λ x. (canonicalKey x ≡ Key x) × Known kinds x) (view kinds r) (view-numbered kinds r s) (λ n. (canonical-integer n, integer-known kinds n)) (λ x e. (there kinds r s x e .canonical, there kinds r s x e .known)) k h
 
   pairs-once : (r : Original) → Right kinds r → distinct (keysOf (pairs (view kinds r)))
-  pairs-once r s = distinct-pairs (view kinds r) (numbered kinds r s) (s .apart) (λ k h. s .placed k h .outside)
+  pairs-once r s = distinct-pairs (view kinds r) (view-numbered kinds r s) (s .apart) (λ k h. there kinds r s k h .outside)
 
   pub original-lists : (r : Original) → Right kinds r → Lists (originalNext r) nil (keep live (pairs (view kinds r))) × PairsOf (lookup (view kinds r)) (keep live (pairs (view kinds r)))
   original-lists r s = (
     lists (originalNext r) (pairs (view kinds r)) (pairs-once r s) (λ k h. original-from r k s (pair-key r k s h .0) (pair-key r k s h .1)) (original-first r s),
-    live-pairs (lookup (view kinds r)) (pairs (view kinds r)) (pairs-once r s) (λ k. find-pairs (view kinds r) k (numbered kinds r s)),
+    live-pairs (lookup (view kinds r)) (pairs (view kinds r)) (pairs-once r s) (λ k. find-pairs (view kinds r) k (view-numbered kinds r s)),
   )
 
 -- ---- two maps with the same values have the same pairs
@@ -94,6 +83,6 @@ same-pairs m n k l h p q =
     record {
       onceHere = p .once;
       onceThere = q .once;
-      keys = λ j. p .each j ∙ ap (λ (v : Words). not (isNil v)) (h j) ∙ sym (q .each j);
-      values = λ j. p .shown j ∙ h j ∙ sym (q .shown j);
+      keys = λ j. p .keys j ∙ ap (λ (v : Words). not (isNil v)) (h j) ∙ sym (q .keys j);
+      values = λ j. p .values j ∙ h j ∙ sym (q .values j);
     }

@@ -19,9 +19,9 @@ pub record SamePairs (l m : List Entry) : Type 0 where
   pub keys : (k : Words) → has l k ≡ has m k
   pub values : (k : Words) → find l k ≡ find m k
 
--- the original still has an entry for the largest integer, cleared
+-- the original answers the largest integer, whose entry it still has, cleared
 abbrev pub ClearedLargest : Original → Type 0
-ClearedLargest r = (hasCell (r .map) (integer largest) ≡ true) × (isNil (findCell (r .map) (integer largest)) ≡ true)
+ClearedLargest r = (originalLength r ≡ largest) × (hasCell (r .map) (integer largest) ≡ true) × (isNil (findCell (r .map) (integer largest)) ≡ true)
 
 pub record Agree (kinds : Kinds) (t : Table) (r : Original) : Type 0 where
   pub gets : (key : Words) → Known kinds key → getOf t key ≡ originalGet r key

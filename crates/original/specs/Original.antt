@@ -12,7 +12,7 @@ use Rattle.key.specs.declared.ArrayIndex.{ArrayIndex}
 use Rattle.key.specs.declared.ArrayIndex.the-variants.{Nothing}
 use Rattle.key.specs.Canonical.{integer, onKey}
 use Rattle.key.specs.Original.{originalKey, originalIndex}
-use Rattle.model.specs.Entries.{Entry, NextValue, found, last, notFound}
+use Rattle.model.specs.Entries.{Entry, keep, NextValue, found, last, notFound}
 use Rattle.model.specs.Table.{below, offset, arrayPairs}
 use Rattle.model.specs.Growth.{tabulate}
 use Rattle.model.specs.Length.{halve, double}
@@ -68,10 +68,6 @@ abbrev pub writeCell : List Cell → Words → (MapKey → MapKey) → Words →
 writeCell [] k f v = []
 writeCell (c ∷ cs) k f v = cond (matches (c .key) k) (cell (f (c .key)) v ∷ cs) (c ∷ writeCell cs k f v)
 
-abbrev pub keepCells : (Cell → Bool) → List Cell → List Cell
-keepCells p [] = []
-keepCells p (c ∷ cs) = cond (p c) (c ∷ keepCells p cs) (keepCells p cs)
-
 abbrev pub hasValue : Cell → Bool
 hasValue c = not (isNil (c .value))
 
@@ -105,8 +101,8 @@ abbrev pub withMap : Original → List Cell → Original
 withMap r m = record { array = r .array; map = m }
 
 -- `set_reserved_value`
-unfoldable pub reserved : Original → Words → Words → Answered
-reserved r k v =
+unfoldable pub setReserved : Original → Words → Words → Answered
+setReserved r k v =
     cond (hasCell (r .map) k)
     (answered 0 (findCell (r .map) k) (withMap r (writeCell (r .map) k (revived k) v)))
     (answered 0 nil (withMap r (r .map ++ (cell (alive k) v ∷ []))))
@@ -124,7 +120,7 @@ unfoldable pub resized : Original → ℕ → Original
 resized r size =
     record {
       array = tabulate size (valueAt r) 0;
-      map = keepCells (λ c. hasValue c && not (below size (mapIndex (c .key)))) (r .map);
+      map = keep (λ c. hasValue c && not (below size (mapIndex (c .key)))) (r .map);
     }
 
 unfoldable pub grown : Choice → Original → Original
@@ -138,14 +134,14 @@ originalSet c r key v =
     (λ k. cond (isNil v)
     (cond (hasCell (r .map) k) (answered 0 (findCell (r .map) k) (withMap r (writeCell (r .map) k killed nil))) (answered 0 nil r))
     (cond (c .room)
-    (reserved r k v)
+    (setReserved r k v)
     (cond (below (length (grown c r .array)) (originalIndex key))
     (answered 0 (getD (grown c r .array) (offset (originalIndex key)) nil) (withArray (grown c r) (set (grown c r .array) (offset (originalIndex key)) v)))
-    (reserved (grown c r) k v)))))
+    (setReserved (grown c r) k v)))))
 
 -- ---- reserve_map
 unfoldable pub originalReserve : Choice → Original → Original
-originalReserve c r = cond (c .room) r (withMap r (keepCells hasValue (r .map)))
+originalReserve c r = cond (c .room) r (withMap r (keep hasValue (r .map)))
 
 -- ---- next: through the array, then through the map in its order. A dead key with a value would panic; NotFound stands for that
 abbrev pub foundAt : MapKey → Words → NextValue

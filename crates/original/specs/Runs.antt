@@ -5,11 +5,11 @@ use mathlib.Core.List.{List, [], _∷_}
 use Prim.Native.Nat.{ℕ}
 use lib.Dec.{leb}
 use Rattle.value.specs.declared.Words.{Words}
+use Rattle.value.specs.Encoding.{Decodes}
 use Rattle.value.specs.Same.{nil}
 use Rattle.key.specs.Refusals.{noRoom}
 use Rattle.model.specs.Table.{Room, Table, getOf}
 use Rattle.model.specs.Calls.{Outcome, setOf, reserveOf}
-use Rattle.model.specs.WellFormed.{Decodes}
 use Rattle.original.specs.Original.{Cell, Original, isObject, Choice, withMap, originalGet, originalSet, originalReserve}
 
 -- `next` and `length` change nothing: what they answer after any of these is compared in `Agreement`

@@ -1,7 +1,9 @@
--- Tests taken apart: a Bool is true or false, and a conjunction or disjunction is its parts. Assumes nothing.
+-- Tests taken apart: a Bool is true or false, and a conjunction or disjunction is its parts; and what cannot be. Assumes nothing.
 use mathlib.Core.Path.{_≡_, refl, sym, _∙_}
 use mathlib.Core.Bool.{Bool, true, false, _&&_, _||_, true≢false}
 use mathlib.Core.Logic.{_⊎_, inl, inr}
+use Prim.Native.Nat.{ℕ}
+use native.Mathlib.Omega.{arith}
 use lib.Dec.{T}
 
 pub caseb {ℓ} : {P : Type ℓ} (b : Bool) → (b ≡ true → P) → (b ≡ false → P) → P
@@ -10,6 +12,10 @@ caseb false f g = g refl
 
 pub clash {ℓ} : {P : Type ℓ} {b : Bool} → b ≡ true → b ≡ false → P
 clash p q = absurd (true≢false (sym p ∙ q))
+
+-- what two different constructors give, by `cc`
+pub never : {X : Type 0} → _≡_ {A = ℕ} 0 1 → X
+never e = absurd (omega arith)
 
 pub T→true : (b : Bool) → T b → b ≡ true
 T→true true t = refl

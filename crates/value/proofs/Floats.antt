@@ -4,15 +4,11 @@ use mathlib.Core.Bool.{true, false, not}
 use lib.Dec.{T}
 use lib.Ieee.{Float, nan, inf, fin, ne, isNan}
 use lib.Ieee.Compare.{differs-from-itself, nan-differs}
-use Prim.Native.Nat.{ℕ}
-use native.Mathlib.Omega.{arith}
+use Rattle.value.proofs.Cases.{clash}
 
 pub same-no-nan : (x : Float) → ne x x ≡ false → T (not (isNan x))
 unfolding isNan
-same-no-nan nan t = absurd (clash (sym nan-differs) t)
-  where
-    clash : true ≡ ne nan nan → ne nan nan ≡ false → ⊥
-    clash p q = let z : true ≡ false = cc in let y : _≡_ {A = ℕ} 0 1 = cc in omega arith
+same-no-nan nan t = clash nan-differs t
 same-no-nan (inf s) t = tt
 same-no-nan (fin s m e) t = tt
 

@@ -1,5 +1,6 @@
 -- The two words of a value, kind and payload, and the value that two words stand for (01, 'Values and keys').
 -- Assumes nothing.
+use mathlib.Core.Path.{_≡_}
 use Prim.Native.Nat.{ℕ}
 use mathlib.Core.Bool.{Bool, true, false, cond}
 use lib.Dec.{T, eqb}
@@ -86,6 +87,9 @@ isGood Undecodable = false
 -- whether two words are a value's
 unfoldable pub decodes : Words → Bool
 decodes w = isGood (decoded w)
+
+abbrev pub Decodes : Words → Type 0
+Decodes w = decodes w ≡ true
 
 -- what the program's types say of a value: an Integer is an i64 and a Number an f64
 abbrev pub Typed : Value → Type 0

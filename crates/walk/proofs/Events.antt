@@ -6,18 +6,18 @@ use mathlib.Core.List.{List, [], _∷_, _++_, append-assoc}
 use mathlib.Core.Logic.{_⊎_, inl, inr}
 use lib.ListN.{length}
 use Rattle.value.specs.declared.Words.{Words}
-use Rattle.value.specs.Encoding.{decodes}
+use Rattle.value.specs.Encoding.{decodes, Decodes}
 use Rattle.value.specs.Same.{same, nil, isNil}
 use Rattle.value.proofs.Cases.{caseb, clash, or-cases, or-right}
 use Rattle.value.proofs.Same.{same-eq, same-refl, eq-same}
 use Rattle.key.specs.declared.CanonicalKey.the-variants.{Key}
 use Rattle.key.specs.Canonical.{canonicalKey}
 use Rattle.key.proofs.Own.{by-key, canonical-own}
-use Rattle.model.specs.Entries.{Entry, entry, keysOf, member, distinct, has, find, put, Each, found, last, first}
+use Rattle.model.specs.Entries.{Entry, entry, keysOf, member, distinct, has, find, put, found, last, first}
 use Rattle.model.specs.Table.{Room, Table, within, pairs, lookup, getOf, nextOf}
 use Rattle.model.specs.Calls.{Outcome, setKey, setOf}
-use Rattle.model.specs.WellFormed.{Decodes, WellFormed}
-use Rattle.model.proofs.Entries.{put-keys, keys-append, has-append, find-append-has, find-append-not, find-absent, find-put, has-snoc, kept-entry}
+use Rattle.model.specs.WellFormed.{WellFormed}
+use Rattle.model.proofs.Entries.{updated, put-keys, keys-append, has-append, find-append-has, find-append-not, find-absent, find-put, has-snoc, kept-entry, each-key}
 use Rattle.model.proofs.Array.{has-pairs, key-of-pairs, find-pairs, pairs-writeArray, pairs-writeEntry}
 use Rattle.model.proofs.Map.{set-key, set-no-key, numbered}
 use Rattle.model.proofs.Kept.{setKey-kept}
@@ -44,13 +44,6 @@ pub record Inv (room : Room) (t₀ t : Table) (allowed : List Words) (key : Word
   pub among : (k : Words) → has handed k ≡ true → member (liveKeys t₀) k ≡ true
 
 -- ---- the pairs of a well-formed table
-entry-decodes : (l : List Entry) (k : Words) → Each (λ s. Decodes (s .key) × Decodes (s .value)) l → has l k ≡ true → Decodes k
-entry-decodes [] k a h = absurd (true≢false (sym h))
-entry-decodes (s ∷ ss) k a h =
-    caseb (same (s .key) k)
-    (λ e. subst Decodes (same-eq (s .key) k e) (a .0 .0))
-    (λ e. entry-decodes ss k (a .1) (rw e at h))
-
 module _ {room : Room} {t : Table} (w : WellFormed room t) where
   next-standing : (before after : List Entry) → pairs t ≡ before ++ after → nextOf t (lastKey nil (keysOf before)) ≡ first after
   next-standing [] after q = next-nil t ∙ ap first q
@@ -66,7 +59,7 @@ module _ {room : Room} {t : Table} (w : WellFormed room t) where
 
   pair-decodes : (k : Words) → has (pairs t) k ≡ true → Decodes k
   unfolding decodes
-  pair-decodes k h = key-of-pairs Decodes t (numbered w) (λ n. refl) (λ x. entry-decodes (t .entries) x (w .entriesDecode)) k h
+  pair-decodes k h = key-of-pairs Decodes t (numbered w) (λ n. refl) (each-key Decodes _ (t .entries) (λ s d. d .0) (w .entriesDecode)) k h
 
   -- a set of a key that is there writes that pair; a set of Nil elsewhere changes nothing
   set-there : (k v : Words) → has (pairs t) k ≡ true → pairs ((setKey room t k v) .table) ≡ put (pairs t) k v
@@ -136,9 +129,9 @@ module _ {room : Room} {t₀ t : Table} {allowed : List Words} {key : Words} {ha
           let wu : WellFormed room u = setKey-kept room t k v w (pair-decodes w k h) d (canonical-own j k c) in
           let p : pairs u ≡ put (pairs t) k v = set-there w k v h in
           changed wu (ap keysOf p ∙ put-keys (pairs t) k v)
-          (λ x n. let now : lookup u x ≡ cond (same k x) v (lookup t x) =
+          (λ x n. let now : lookup u x ≡ updated (lookup t) k v x =
           sym (find-pairs u x (numbered wu)) ∙ ap (λ (l : List Entry). find l x) p ∙ find-put (pairs t) k v x h ∙ ap (cond (same k x) v) (find-pairs t x (numbered w)) in
-          let g : isNil (cond (same k x) v (lookup t x)) ≡ false = rw now at n in
+          let g : isNil (updated (lookup t) k v x) ≡ false = rw now at n in
           caseb (same k x)
           (λ e. subst (λ (y : Words). member allowed y ≡ true) (same-eq k x e) (may k c (rw e at g)))
           (λ e. i .settable x (rw e at g)))
@@ -207,8 +200,8 @@ module _ {room : Room} {t₀ t : Table} {allowed : List Words} {key : Words} {ha
         among x (inl e) = subst (λ (y : Words). member (liveKeys t₀) y ≡ true) (same-eq k x e) (i .start k (i .settable k (rw held (ahead .value))))
         among x (inr h) = i .among x h
 
-    pub shown : (getOf t k ≡ v) × (isNil v ≡ false) × (has handed k ≡ false)
-    shown = (
+    pub shows : (getOf t k ≡ v) × (isNil v ≡ false) × (has handed k ≡ false)
+    shows = (
       get-key t k k (pair-canonical k (i .wellFormed) (rw here (has-middle behind (entry k v) (ahead .rest)))) ∙ held,
       ahead .value,
       stepped .once .0,
@@ -229,7 +222,7 @@ begun {t₀ = t₀} w =
       came = λ j k c q h. h;
       now = λ j q. q;
       present = λ k h. kept-entry _ (pairs t₀) k h .3;
-      settable = λ k n. next-lists t₀ w .1 .each k ∙ ap not n;
+      settable = λ k n. next-lists t₀ w .1 .keys k ∙ ap not n;
       start = λ k h. h;
       among = λ k h. absurd (true≢false (sym h));
     }

@@ -3,12 +3,12 @@
 use mathlib.Core.Path.{_≡_, refl, sym, ap, subst, _∙_}
 use mathlib.Core.Bool.{true, false, cond, true≢false}
 use mathlib.Core.List.{List, [], _∷_, _++_}
-use Prim.Native.Nat.{ℕ, suc, _≤_}
+use Prim.Native.Nat.{suc, _≤_}
 use native.Mathlib.Omega.{arith}
 use lib.ListN.{length}
 use Rattle.value.specs.declared.Words.{Words}
 use Rattle.value.specs.Same.{same, nil, isNil}
-use Rattle.value.proofs.Cases.{caseb, clash, or-right}
+use Rattle.value.proofs.Cases.{caseb, clash, or-right, never}
 use Rattle.value.proofs.Same.{same-eq, same-refl, ne-same}
 use Rattle.model.specs.Entries.{Entry, entry, keysOf, member, distinct, has, find, found, last, notFound, first}
 use Rattle.model.proofs.Entries.{has-append}
@@ -50,7 +50,7 @@ apart (s ∷ ss) m k d h =
 -- a list splits where its keys do
 pub keys-split : (l : List Entry) (ks ms : List Words) → keysOf l ≡ ks ++ ms → (a : List Entry) × (b : List Entry) × (l ≡ a ++ b) × (keysOf a ≡ ks) × (keysOf b ≡ ms)
 keys-split l [] ms h = ([], l, refl, refl, h)
-keys-split [] (x ∷ ks) ms h = let z : _≡_ {A = ℕ} 0 1 = cc in absurd (omega arith)
+keys-split [] (x ∷ ks) ms h = never (cc)
 keys-split (s ∷ ss) (x ∷ ks) ms h =
     let e : s .key ≡ x = cc in
     let es : keysOf ss ≡ ks ++ ms = cc in
@@ -82,7 +82,7 @@ pub record Passed (l : List Entry) (k v : Words) : Type 0 where
   pub value : isNil v ≡ false
 
 pub first-found : (l : List Entry) (k v : Words) → first l ≡ found k v → Passed l k v
-first-found [] k v h = let z : _≡_ {A = ℕ} 0 1 = cc in absurd (omega arith)
+first-found [] k v h = never (cc)
 first-found (s ∷ ss) k v h =
     caseb (isNil (s .value))
     (λ e. let r : Passed ss k v = first-found ss k v (rw e at h) in
@@ -97,11 +97,11 @@ first-last [] k h = same-refl nil
 first-last (s ∷ ss) k h =
     caseb (isNil (s .value))
     (λ e. caseb (same (s .key) k) (λ b. rw b e) (λ b. rw b (first-last ss k (rw e at h))))
-    (λ e. let g : found (s .key) (s .value) ≡ last = rw e at h in let z : _≡_ {A = ℕ} 0 1 = cc in absurd (omega arith))
+    (λ e. let g : found (s .key) (s .value) ≡ last = rw e at h in never (cc))
 
 pub first-there : (l : List Entry) → first l ≡ notFound → ⊥
-first-there [] h = let z : _≡_ {A = ℕ} 0 1 = cc in omega arith
+first-there [] h = never (cc)
 first-there (s ∷ ss) h =
     caseb (isNil (s .value))
     (λ e. first-there ss (rw e at h))
-    (λ e. let g : found (s .key) (s .value) ≡ notFound = rw e at h in let z : _≡_ {A = ℕ} 0 1 = cc in omega arith)
+    (λ e. let g : found (s .key) (s .value) ≡ notFound = rw e at h in never (cc))

@@ -11,21 +11,22 @@ use Rattle.value.proofs.Cases.{clash}
 use Rattle.value.proofs.Same.{same-refl}
 use Rattle.model.specs.Entries.{Entry, keysOf, NextValue, found, last, notFound}
 use Rattle.model.specs.Table.{Room, Table, nextOf}
+use Rattle.model.specs.Calls.{Outcome}
 use Rattle.model.specs.WellFormed.{WellFormed}
 use Rattle.model.proofs.Entries.{length-keys}
-use Rattle.model.proofs.Refusals.{refused-same, reserve-same}
+use Rattle.model.proofs.Refusals.{set-unchanged, reserve-refused}
 use Rattle.model.proofs.Next.{get-key}
 use Rattle.walk.specs.History.{liveKeys, History, begin, read, refusedSet, refusedReserve, clear, write, step, Throughout}
 use Rattle.walk.specs.Walked.{atStart, Walked}
 use Rattle.walk.proofs.Lists.{no-longer, first-there}
-use Rattle.walk.proofs.Events.{Inv, value-there, next-first, unchanged, was-set, passed-by, shown, stepped, begun}
+use Rattle.walk.proofs.Events.{Inv, value-there, next-first, unchanged, was-set, passed-by, shows, stepped, begun}
 
 holds : {room : Room} {t₀ t : Table} {allowed : List Words} {key : Words} {handed : List Entry} → WellFormed room t₀ → (w : History room t₀ t allowed key handed) → Inv room t₀ t allowed key handed (Throughout w)
 unfolding decodes
 holds w₀ begin = begun w₀
 holds w₀ (read w) = holds w₀ w
-holds {room = room} w₀ (refusedSet {t = t} k v r w) = unchanged (holds w₀ w) (refused-same room t k v (holds w₀ w .wellFormed) r)
-holds {room = room} w₀ (refusedReserve {t = t} n r w) = unchanged (holds w₀ w) (reserve-same room t n r)
+holds {room = room} w₀ (refusedSet {t = t} k v r w) = unchanged (holds w₀ w) (set-unchanged room t k v (holds w₀ w .wellFormed) r)
+holds {room = room} w₀ (refusedReserve {t = t} n r w) = unchanged (holds w₀ w) (ap (λ (o : Outcome). o .table) (reserve-refused room t n r .0))
 holds w₀ (clear k w) = was-set (holds w₀ w) k nil refl (λ x c n. clash (same-refl nil) n)
 holds w₀ (write k v m d w) = was-set (holds w₀ w) k v d (λ x c n. rw c at m)
 holds w₀ (step k v n w) = stepped (holds w₀ w) k v n
@@ -45,7 +46,7 @@ module _ {room : Room} {t₀ t : Table} {allowed : List Words} {key : Words} {ha
         wellFormed = i .wellFormed;
         there = λ n. first-there (i .after) (sym (next-first i) ∙ n);
         once = i .once;
-        shows = λ k v n. shown i k v n;
+        shows = λ k v n. shows i k v n;
         few = at-most i;
         ends = λ q. ended q (nextOf t key) refl;
         all = λ n j k c th. passed-by i (i .after) [] (sym (append-nil (i .after))) (sym (next-first i) ∙ n) j k c th (rw (i .split) at (value-there (i .wellFormed) k (ap isNil (sym (get-key t j k c)) ∙ i .now j th)));

@@ -5,12 +5,12 @@ use mathlib.Core.Bool.{true, false}
 use mathlib.Core.List.{List, [], _∷_}
 use Prim.Native.Nat.{ℕ}
 use Rattle.value.specs.declared.Words.{Words}
+use Rattle.value.specs.Encoding.{Decodes}
 use Rattle.value.specs.Same.{nil, isNil}
 use Rattle.key.specs.Canonical.{canonicalKey, onKey}
 use Rattle.model.specs.Entries.{Entry, entry, keysOf, member, keep, live, found}
 use Rattle.model.specs.Table.{Room, Table, pairs, getOf, nextOf}
 use Rattle.model.specs.Calls.{setOf, reserveOf}
-use Rattle.model.specs.WellFormed.{Decodes}
 
 -- the keys with a value
 unfoldable pub liveKeys : Table → List Words

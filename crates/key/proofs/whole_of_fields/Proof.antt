@@ -1,5 +1,5 @@
 -- `key::whole_of_fields` meets its contract. Assumes nothing.
-use mathlib.Core.Path.{sym, ap, subst, subst⁻¹}
+use mathlib.Core.Path.{sym, ap, subst⁻¹}
 use Prim.Native.Nat.{ℕ, _+_, _-_, _*_, _^_, _<_}
 use lib.Pow.{pow-pos}
 use Rattle.key.proofs.Ratios.{zero-field, subnormal, fraction, large, middle-is, middle-not, upper-is, upper-large, upper-fits}
