@@ -40,7 +40,8 @@ new = record { array = []; map = [] }
 abbrev pub isObject : Words → Bool
 isObject k = leb 4 (k .kind)
 
--- `Key::eq`: a dead key is any object at its address
+-- `Key::eq`: a dead key is any object at its address. Searches go by hash first, which is left out: a key meets its own dead key always, and
+-- `Known` leaves out the sequences in which it could meet another's
 unfoldable pub matches : MapKey → Words → Bool
 matches (alive a) k = same a k
 matches (dead h) k = isObject k && eqb h (k .payload)
