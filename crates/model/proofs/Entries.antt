@@ -104,34 +104,20 @@ find-keep p (s ∷ ss) k d h =
     rw (b, e) (find-absent (keep p ss) k (has-keep p ss k n) ∙ sym (h s q b)))
     (λ e. rw (b, e) (find-keep p ss k (d .1) h)))
 
--- a key that was kept stands in an entry that passes the test
-pub kept-entry : (p : Entry → Bool) (l : List Entry) (k : Words) → has (keep p l) k ≡ true → (s : Entry) × (s .key ≡ k) × (p s ≡ true) × (has l k ≡ true)
-kept-entry p [] k h = absurd (true≢false (sym h))
-kept-entry p (s ∷ ss) k h =
-    caseb (p s)
-    (λ b. caseb (same (s .key) k)
-    (λ e. (s, same-eq (s .key) k e, b, rw e))
-    (λ e. let r : (x : Entry) × (x .key ≡ k) × (p x ≡ true) × (has ss k ≡ true) = kept-entry p ss k (rw (b, e) at h) in (r .0, r .1, r .2, rw e (r .3))))
-    (λ b. let r : (x : Entry) × (x .key ≡ k) × (p x ≡ true) × (has ss k ≡ true) = kept-entry p ss k (rw b at h) in (r .0, r .1, r .2, or-right (same (s .key) k) (has ss k) (r .3)))
-
 pub length-keep : {X : Type 0} (p : X → Bool) (l : List X) → length (keep p l) ≤ length l
 length-keep p [] = omega arith
 length-keep p (s ∷ ss) = let h : length (keep p ss) ≤ length ss = length-keep p ss in caseb (p s) (λ e. rw e (omega arith)) (λ e. rw e (omega arith))
 
 -- ---- distinct keys
-pub distinct-snoc : (l : List Words) (k : Words) → distinct l → member l k ≡ false → distinct (l ++ (k ∷ []))
-distinct-snoc [] k d h = (refl, tt)
-distinct-snoc (x ∷ xs) k d h =
-    caseb (same x k)
-    (λ e. absurd (true≢false (rw e at h)))
-    (λ e. (member-append xs (k ∷ []) x ∙ rw (d .0, same-sym x k e), distinct-snoc xs k (d .1) (rw e at h)))
-
 pub distinct-append : (l m : List Words) → distinct l → distinct m → ((k : Words) → member l k ≡ true → member m k ≡ false) → distinct (l ++ m)
 distinct-append [] m d e h = e
 distinct-append (x ∷ xs) m d e h = (
   member-append xs m x ∙ rw (d .0) (h x (rw (same-refl x))),
   distinct-append xs m (d .1) e (λ k g. h k (or-right (same x k) (member xs k) g)),
 )
+
+pub distinct-snoc : (l : List Words) (k : Words) → distinct l → member l k ≡ false → distinct (l ++ (k ∷ []))
+distinct-snoc l k d h = distinct-append l (k ∷ []) d (refl, tt) (λ x g. rw (ne-same k x (λ p. clash g (subst (λ (y : Words). member l y ≡ false) p h))))
 
 pub distinct-keep : (p : Entry → Bool) (l : List Entry) → distinct (keysOf l) → distinct (keysOf (keep p l))
 distinct-keep p [] d = tt

@@ -4,7 +4,6 @@ use mathlib.Core.Bool.{Bool, true, false, _&&_, _||_, true≢false}
 use mathlib.Core.Logic.{_⊎_, inl, inr}
 use Prim.Native.Nat.{ℕ}
 use native.Mathlib.Omega.{arith}
-use lib.Dec.{T}
 
 pub caseb {ℓ} : {P : Type ℓ} (b : Bool) → (b ≡ true → P) → (b ≡ false → P) → P
 caseb true f g = f refl
@@ -16,10 +15,6 @@ clash p q = absurd (true≢false (sym p ∙ q))
 -- what two different constructors give, by `cc`
 pub never : {X : Type 0} → _≡_ {A = ℕ} 0 1 → X
 never e = absurd (omega arith)
-
-pub T→true : (b : Bool) → T b → b ≡ true
-T→true true t = refl
-T→true false t = absurd t
 
 pub and-left : (a b : Bool) → (a && b) ≡ true → a ≡ true
 and-left true b t = refl

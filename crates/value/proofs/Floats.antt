@@ -1,4 +1,4 @@
--- What the test x != x says of a float, and a pattern's NaN test. Assumes nothing.
+-- What the test x != x says of a float: it is the NaN, or none. Assumes nothing.
 use mathlib.Core.Path.{_≡_, sym, subst}
 use mathlib.Core.Bool.{true, false, not}
 use lib.Dec.{T}

@@ -1,11 +1,11 @@
 -- `same` decides equality of stored values. Assumes nothing.
-use mathlib.Core.Path.{_≡_, sym, _∙_}
+use mathlib.Core.Path.{_≡_, refl, sym, _∙_}
 use mathlib.Core.Bool.{true, false, not, true≢false}
-use lib.Dec.{eqb, eqb-refl}
-use borrow.Author.Tests.{eqb-true, not-false}
+use lib.Dec.{eqb}
+use borrow.Author.Tests.{eqb-true, eq-eqb, not-false}
 use Rattle.value.specs.declared.Words.{Words}
 use Rattle.value.specs.Same.{same, nil, isNil}
-use Rattle.value.proofs.Cases.{caseb, T→true, and-left, and-right}
+use Rattle.value.proofs.Cases.{caseb, and-left, and-right}
 
 pub same-eq : (a b : Words) → same a b ≡ true → a ≡ b
 unfolding same
@@ -16,7 +16,7 @@ same-eq a b t =
 
 pub same-refl : (a : Words) → same a a ≡ true
 unfolding same
-same-refl a = rw (T→true (eqb (a .kind) (a .kind)) (eqb-refl (a .kind)), T→true (eqb (a .payload) (a .payload)) (eqb-refl (a .payload)))
+same-refl a = rw (eq-eqb (a .kind) (a .kind) refl, eq-eqb (a .payload) (a .payload) refl)
 
 pub eq-same : (a b : Words) → a ≡ b → same a b ≡ true
 eq-same a b p = rw p (same-refl b)

@@ -1,5 +1,4 @@
--- Two's complement: -1 - z takes a negative number to a natural one and back, and the word of -1 - k is 2 ^ 64 - 1 - k.
--- Assumes nothing.
+-- Signed numbers by their sign: one from 0 up is its word, and -1 - z takes a negative one to a natural number and back. Assumes nothing.
 use mathlib.Core.Path.{_≡_, refl, ap, _∙_}
 use mathlib.Core.Bool.{Bool, true, false, cond}
 use Prim.Native.Nat.{ℕ, zero, suc, _-_, _<_, _^_}

@@ -13,11 +13,11 @@ use Rattle.value.proofs.Same.{same-eq, same-refl, eq-same}
 use Rattle.key.specs.declared.CanonicalKey.the-variants.{Key}
 use Rattle.key.specs.Canonical.{canonicalKey}
 use Rattle.key.proofs.Own.{by-key, canonical-own}
-use Rattle.model.specs.Entries.{Entry, entry, keysOf, member, distinct, has, find, put, found, last, first}
+use Rattle.model.specs.Entries.{Entry, entry, keysOf, member, distinct, has, find, put, live, found, last, first}
 use Rattle.model.specs.Table.{Room, Table, within, pairs, lookup, getOf, nextOf}
 use Rattle.model.specs.Calls.{Outcome, setKey, setOf}
 use Rattle.model.specs.WellFormed.{WellFormed}
-use Rattle.model.proofs.Entries.{updated, put-keys, keys-append, has-append, find-append-has, find-append-not, find-absent, find-put, has-snoc, kept-entry, each-key}
+use Rattle.model.proofs.Entries.{updated, put-keys, keys-append, has-append, find-append-has, find-append-not, find-absent, find-put, has-snoc, has-keep, each-key}
 use Rattle.model.proofs.Array.{has-pairs, key-of-pairs, find-pairs, pairs-writeArray, pairs-writeEntry}
 use Rattle.model.proofs.Map.{set-key, set-no-key, numbered}
 use Rattle.model.proofs.Kept.{setKey-kept}
@@ -221,7 +221,7 @@ begun {t₀ = t₀} w =
       new = λ k h. refl;
       came = λ j k c q h. h;
       now = λ j q. q;
-      present = λ k h. kept-entry _ (pairs t₀) k h .3;
+      present = λ k h. caseb (has (pairs t₀) k) (λ b. b) (λ b. clash h (has-keep live (pairs t₀) k b));
       settable = λ k n. next-lists t₀ w .1 .keys k ∙ ap not n;
       start = λ k h. h;
       among = λ k h. absurd (true≢false (sym h));
