@@ -9,3 +9,6 @@ keyIsNaN = 2
 
 abbrev pub noRoom : ℕ
 noRoom = 3
+
+abbrev pub wrongShape : ℕ
+wrongShape = 4

@@ -6,7 +6,7 @@ ghost use Prim.Native.Nat.{_≤_, _<_, _^_};
 ghost use lib.Ieee.{binary64, ofBits, ofFields, size};
 ghost use Rattle.key.specs.Canonical.{wholeOf, wholeKey, numberKey, canonicalKey, arrayIndex};
 
-// Why a key has no canonical form, by the paper's refusal numbers.
+// The paper's refusal numbers. The first two say why a key has no canonical form.
 pub const KEY_IS_NIL: u8 = 1;
 
 pub const KEY_IS_NAN: u8 = 2;

@@ -7,6 +7,7 @@ use Prim.Native.Nat.{ℕ, zero, suc, _+_, _≤_, _<_}
 use native.Mathlib.Nat.{le-of-suc-le-suc, not-suc-le-zero}
 use native.Mathlib.Omega.{arith}
 use lib.ListN.{length, getD, set, length-map}
+use lib.Seq.{ext-getD}
 use Rattle.value.specs.declared.Words.{Words}
 use Rattle.value.specs.Same.{same, nil}
 use Rattle.value.proofs.Cases.{caseb, clash, or-right}
@@ -154,9 +155,48 @@ each-set P [] i x h a = a
 each-set P (y ∷ ys) zero x h a = (h, a .1)
 each-set P (y ∷ ys) (suc i) x h a = (a .0, each-set P ys i x h (a .1))
 
-pub each-tabulate : {X : Type 0} (P : X → Type 0) (n : ℕ) (f : ℕ → X) (i : ℕ) → ((j : ℕ) → P (f j)) → Each P (tabulate n f i)
+pub each-tabulate : {X : Type 0} (P : X → Type 0) (n : ℕ) (f : ℕ → X) (i : ℕ) → ((j : ℕ) → i ≤ j → j < i + n → P (f j)) → Each P (tabulate n f i)
 each-tabulate P zero f i h = tt
-each-tabulate P (suc n) f i h = (h i, each-tabulate P n f (suc i) h)
+each-tabulate P (suc n) f i h = (h i (omega arith) (omega arith), each-tabulate P n f (suc i) (λ j a b. h j (omega arith) (omega arith)))
+
+-- ---- by place
+pub each-at : {X : Type 0} (P : X → Type 0) (d : X) (l : List X) → Each P l → (i : ℕ) → i < length l → P (getD l i d)
+each-at P d [] a i h = absurd (not-suc-le-zero h)
+each-at P d (x ∷ xs) a zero h = a .0
+each-at P d (x ∷ xs) a (suc i) h = each-at P d xs (a .1) i (le-of-suc-le-suc h)
+
+pub member-at : (l : List Words) (i : ℕ) → i < length l → member l (getD l i nil) ≡ true
+member-at [] i h = absurd (not-suc-le-zero h)
+member-at (x ∷ xs) zero h = rw (same-refl x)
+member-at (x ∷ xs) (suc i) h = or-right (same x (getD xs i nil)) (member xs (getD xs i nil)) (member-at xs i (le-of-suc-le-suc h))
+
+pub member-place : (l : List Words) (k : Words) → member l k ≡ true → (i : ℕ) × (i < length l) × (getD l i nil ≡ k)
+member-place [] k h = absurd (true≢false (sym h))
+member-place (x ∷ xs) k h =
+    caseb (same x k)
+    (λ e. (0, omega arith, same-eq x k e))
+    (λ e. let r : (i : ℕ) × (i < length xs) × (getD xs i nil ≡ k) = member-place xs k (rw e at h) in (suc (r .0), omega arith, r .2))
+
+-- no two places have one key
+abbrev pub Apart : List Words → Type 0
+Apart l = (i j : ℕ) → i < length l → j < length l → getD l i nil ≡ getD l j nil → i ≡ j
+
+pub distinct-apart : (l : List Words) → distinct l → Apart l
+distinct-apart [] d i j a b p = absurd (not-suc-le-zero a)
+distinct-apart (x ∷ xs) d zero zero a b p = refl
+distinct-apart (x ∷ xs) d zero (suc j) a b p = clash (rw (← p) at (member-at xs j (le-of-suc-le-suc b))) (d .0)
+distinct-apart (x ∷ xs) d (suc i) zero a b p = clash (rw p at (member-at xs i (le-of-suc-le-suc a))) (d .0)
+distinct-apart (x ∷ xs) d (suc i) (suc j) a b p = ap suc (distinct-apart xs (d .1) i j (le-of-suc-le-suc a) (le-of-suc-le-suc b) p)
+
+pub apart-distinct : (l : List Words) → Apart l → distinct l
+apart-distinct [] h = tt
+apart-distinct (x ∷ xs) h = (
+  caseb (member xs x)
+      (λ e. let r : (i : ℕ) × (i < length xs) × (getD xs i nil ≡ x) = member-place xs x e in
+      absurd (omega (arith, h 0 (suc (r .0)) (omega arith) (omega arith) (sym (r .2)))))
+      (λ e. e),
+  apart-distinct xs (λ i j a b p. omega (arith, h (suc i) (suc j) (omega arith) (omega arith) p)),
+)
 
 -- ---- an array made anew
 pub length-tabulate : {X : Type 0} (n : ℕ) (f : ℕ → X) (i : ℕ) → length (tabulate n f i) ≡ n
@@ -167,3 +207,19 @@ pub getD-tabulate : {X : Type 0} (n : ℕ) (f : ℕ → X) (d : X) (i j : ℕ) �
 getD-tabulate zero f d i j h = absurd (not-suc-le-zero h)
 getD-tabulate (suc n) f d i zero h = ap f (omega arith)
 getD-tabulate (suc n) f d i (suc j) h = getD-tabulate n f d (suc i) j (le-of-suc-le-suc h) ∙ ap f (omega arith)
+
+pub tabulate-at : {X : Type 0} (n : ℕ) (f : ℕ → X) (d : X) (i : ℕ) → i < n → getD (tabulate n f 0) i d ≡ f i
+tabulate-at n f d i h = getD-tabulate n f d 0 i h ∙ ap f (omega arith)
+
+pub tabulate-each : {X : Type 0} (P : X → Type 0) (d : X) (n : ℕ) (f : ℕ → X) → Each P (tabulate n f 0) → (i : ℕ) → i < n → P (f i)
+tabulate-each P d n f a i h = subst P (tabulate-at n f d i h) (each-at P d (tabulate n f 0) a i (omega (arith, length-tabulate n f 0)))
+
+-- a list, made anew by place
+pub tabulate-is : {X : Type 0} (l : List X) (f : ℕ → X) (d : X) → ((i : ℕ) → i < length l → f i ≡ getD l i d) → tabulate (length l) f 0 ≡ l
+tabulate-is l f d p =
+    let len : length (tabulate (length l) f 0) ≡ length l = length-tabulate (length l) f 0 in
+    ext-getD d (tabulate (length l) f 0) l len (λ i h. tabulate-at (length l) f d i (omega arith) ∙ p i (omega arith))
+
+pub map-tabulate : {X Y : Type 0} (g : X → Y) (n : ℕ) (f : ℕ → X) (i : ℕ) → map g (tabulate n f i) ≡ tabulate n (λ j. g (f j)) i
+map-tabulate g zero f i = refl
+map-tabulate {Y = Y} g (suc n) f i = ap {B = List Y} (λ r. g (f i) ∷ r) (map-tabulate g n f (suc i))

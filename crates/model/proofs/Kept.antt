@@ -19,19 +19,10 @@ use Rattle.model.specs.Entries.{Entry, entry, keysOf, has, find, keep, l
 use Rattle.model.specs.Table.{Room, Table, fresh, within, placeOf, lookup}
 use Rattle.model.specs.Growth.{optimalSize, stays, rehashed, grownAllowance}
 use Rattle.model.specs.Calls.{writeArray, writeEntry, append, placeIn, grow, setKey, setOf, reserveOf}
-use Rattle.model.specs.WellFormed.{Fair, ZeroOrPower, WellFormed}
+use Rattle.model.specs.WellFormed.{Fair, ZeroOrPower, WellFormed, DecodesBoth, Canonical, Outside}
 use Rattle.model.proofs.Entries.{put-keys, length-put, keys-append, length-keep, distinct-snoc, distinct-keep, each-append, each-keep, each-put, each-set, each-tabulate}
 use Rattle.model.proofs.Map.{set-key, set-no-key, rehashed-length, absent-still}
 use Rattle.model.proofs.Size.{size-le, size-power}
-
-abbrev DecodesBoth : Entry → Type 0
-DecodesBoth s = Decodes (s .key) × Decodes (s .value)
-
-abbrev Canonical : Entry → Type 0
-Canonical s = canonicalKey (s .key) ≡ Key (s .key)
-
-abbrev Outside : ℕ → Entry → Type 0
-Outside A s = within A (s .key) ≡ false
 
 nil-decodes : Decodes nil
 unfolding decodes
@@ -131,7 +122,7 @@ rehashed-kept room t S h q w =
       entriesFit = omega (arith, length-keep (stays A) (t .entries), w .entriesFit);
       allowanceFits = w .allowanceFits;
       power = rw len (max-power (length (t .array)) S (w .power) q);
-      arrayDecodes = each-tabulate Decodes A (λ i. lookup t (integer (suc i))) 0 (λ i. lookup-decodes room t (integer (suc i)) w);
+      arrayDecodes = each-tabulate Decodes A (λ i. lookup t (integer (suc i))) 0 (λ i a b. lookup-decodes room t (integer (suc i)) w);
       entriesDecode = each-keep DecodesBoth DecodesBoth (stays A) (t .entries) (λ s e d. d) (w .entriesDecode);
       canonical = each-keep Canonical Canonical (stays A) (t .entries) (λ s e c. c) (w .canonical);
       outside = rw len (each-keep (Outside (length (t .array))) (Outside A) (stays A) (t .entries) (λ s e o. left s e) (w .outside));

@@ -5,6 +5,7 @@ ghost use mir.Syntax.{w64};
 ghost use mir.Val.{ofZ, toZ};
 ghost use lib.Ieee.{binary64, toBits, nanBits};
 ghost use Rattle.value.specs.Encoding.{kindOf, payloadOf, encoded, numberOf, decoded};
+ghost use Rattle.value.specs.Same.{same};
 
 // Kinds 4 to 9 carry a handle of the host's.
 pub enum Function {
@@ -167,5 +168,16 @@ pub fn decode(w: Words) -> Decoded
         8 => Decoded::Value(Value::Thread(payload)),
         9 => Decoded::Value(Value::UserData(payload)),
         _ => Decoded::Undecodable,
+    }
+}
+
+// Whether two stored values are the same.
+pub fn are_same(a: Words, b: Words) -> bool
+    ensures { λ r. ⌜ r ≡ same a b ⌝ }
+{
+    if a.kind == b.kind {
+        a.payload == b.payload
+    } else {
+        false
     }
 }

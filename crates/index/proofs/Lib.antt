@@ -1,0 +1,6 @@
+pub mod Home
+pub mod Used
+pub mod Climb
+pub mod Insert
+pub mod Answers
+pub mod Seats

@@ -1,0 +1,3 @@
+pub mod Home
+pub mod Index
+pub mod Search

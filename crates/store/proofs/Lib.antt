@@ -1,0 +1,4 @@
+pub mod Views
+pub mod Sound
+pub mod Unique
+pub mod Power
