@@ -14,6 +14,7 @@ use lib.ListN.{length, getD, set, replicate, length-set, length-replicate}
 use lib.Seq.{getD-set-same, getD-set-other, set-set, set-getD}
 use borrow.Author.Tests.{lt-ltb, le-ltb, ltb-false}
 use Rattle.value.proofs.Cases.{clash}
+use Rattle.lent.proofs.Lent.{zero-at}
 use Rattle.index.specs.Index.{climb, reached, isEmpty, placed, indexOf, notBefore, seatOf, used}
 use Rattle.index.proofs.Used.{not-empty, is-empty, used-zeros, used-set, used-clear, none-used, some-empty, inside}
 use Rattle.index.proofs.Climb.{Chain, chain-to, chain-lt, climb-at, Climbed, climbed, climb-stops}
@@ -144,15 +145,10 @@ module _ (n : ℕ) (home : ℕ → ℕ) (e : ℕ) (l : List ℕ) (H : Held n hom
       small-put k (yes q) = rw (q, getD-set-same l at (suc e) 0 at-inside) (omega arith)
       small-put k (no q) = rw (getD-set-other l at k (suc e) 0 q) (omega (arith, H .small k))
 
-zero-word : (n k : ℕ) → getD (replicate n 0) k 0 ≤ 0
-zero-word zero k = zero-le
-zero-word (suc n) zero = zero-le
-zero-word (suc n) (suc k) = zero-word n k
-
 pub index-held : (n : ℕ) (home : ℕ → ℕ) (e : ℕ) → e ≤ n → ((i : ℕ) → i < e → home i < n) → Held n home e (indexOf n home e)
 unfolding indexOf
 index-held n home zero h b =
-    record { long = length-replicate n 0; count = used-zeros n; small = zero-word n; held = λ i l. absurd (not-suc-le-zero l) }
+    record { long = length-replicate n 0; count = used-zeros n; small = λ k. rw (zero-at n k) zero-le; held = λ i l. absurd (not-suc-le-zero l) }
 index-held n home (suc e) h b =
     let l = indexOf n home e in
     let H = index-held n home e (omega arith) (λ i q. b i (omega arith)) in

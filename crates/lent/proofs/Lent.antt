@@ -84,7 +84,11 @@ all-decode n ws h z i l =
     let p : getD ws (2 * i + 1) 0 ≡ 0 = z (2 * i + 1) (omega arith) (omega arith) in
     rw (k, p))
 
+-- zeros have 0 everywhere, past their end too
+pub zero-at : (n i : ℕ) → getD {A = ℕ} (replicate n 0) i 0 ≡ 0
+zero-at zero i = refl
+zero-at (suc n) zero = refl
+zero-at (suc n) (suc i) = zero-at n i
+
 pub zeros-sized : (n : ℕ) → WordSized (replicate n 0)
-zeros-sized zero i = omega arith
-zeros-sized (suc n) zero = omega arith
-zeros-sized (suc n) (suc i) = zeros-sized n i
+zeros-sized n i = rw (zero-at n i) (omega arith)
