@@ -1,12 +1,8 @@
--- What loops over words write and test. Assumes nothing.
-use mathlib.Core.Path.{_≡_}
+-- The words that a slice is given before `fresh`. Assumes nothing.
 use mathlib.Core.List.{List}
-use Prim.Native.Nat.{ℕ, _+_, _%_, _<_}
-use lib.ListN.{length, getD}
-
--- the first n words are these
-abbrev pub Holds : (ℕ → ℕ) → ℕ → List ℕ → Type 0
-Holds f n ws = (i : ℕ) → i < n → getD ws i 0 ≡ f i
+use Prim.Native.Nat.{ℕ, _+_, _%_}
+use lib.ListN.{length}
+use Rattle.console.specs.Input.{Holds}
 
 -- the word that place i is given before `fresh`
 abbrev pub markOf : ℕ → ℕ

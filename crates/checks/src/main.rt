@@ -1,81 +1,16 @@
 // Reads records of little-endian 64-bit words and writes a line for each: of a store, whether the check says that it is sound; of three
 // lengths, what `fresh` does in slices of such lengths. What the lines must be is worked out apart from this code: tests/checks.
 use index::Word;
-use libc::STDIN_FILENO;
 use libc::STDOUT_FILENO;
 use store::Made;
 use store::Record;
 ghost use mathlib.Core.Path.{_≡_};
-ghost use Prim.Native.Nat.{_+_, _*_, _/_, _%_, _<_, _≤_, min};
+ghost use Prim.Native.Nat.{_+_, _%_, _<_, _≤_, min};
 ghost use lib.ListN.{length, getD};
 ghost use Rattle.lent.specs.Lent.{ZeroFrom};
 ghost use Rattle.lent.specs.Says.{Says};
-ghost use Rattle.checks.specs.Input.{byteRoom, wordRoom, pairAt, quadAt, wordAt, sizesAt};
-ghost use Rattle.checks.specs.Marks.{markOf, Holds, Marked};
-
-// Room for bytes of input; and for words of a slice, past the limits of lent room and past what the input can hold. The same numbers
-// stand in specs/Input.antt.
-const BYTES: usize = 524288;
-
-const ROOM: usize = 131080;
-
-// Each contract gives only the length, which lending a part needs.
-fn byte_room() -> [u8; BYTES]
-    ensures { λ r. ⌜ byteRoom ≡ length r ⌝ }
-{
-    [0; BYTES]
-}
-
-fn word_room() -> [u64; ROOM]
-    ensures { λ r. ⌜ wordRoom ≡ length r ⌝ }
-{
-    [0; ROOM]
-}
-
-fn index_room() -> [Word; ROOM]
-    ensures { λ r. ⌜ wordRoom ≡ length r ⌝ }
-{
-    [0; ROOM]
-}
-
-fn wide(byte: u8) -> u64
-    ensures { λ r. ⌜ (r ≡ byte) × (r < 256) ⌝ }
-{
-    byte as u64
-}
-
-fn pair_at(bytes: &[u8], at: usize) -> u64
-    requires { ⌜ at + 2 ≤ length (now bytes) ⌝ }
-    ensures { λ r. ⌜ (r ≡ pairAt (now (bytes .entry)) at) × (r < 65536) ⌝ }
-{
-    wide(bytes[at]) + 256 * wide(bytes[at + 1])
-}
-
-fn quad_at(bytes: &[u8], at: usize) -> u64
-    requires { ⌜ at + 4 ≤ length (now bytes) ⌝ }
-    ensures { λ r. ⌜ (r ≡ quadAt (now (bytes .entry)) at) × (r < 4294967296) ⌝ }
-{
-    pair_at(bytes, at) + 65536 * pair_at(bytes, at + 2)
-}
-
-fn word_at(bytes: &[u8], at: usize) -> u64
-    requires { ⌜ at + 8 ≤ length (now bytes) ⌝ }
-    ensures { λ r. ⌜ r ≡ wordAt (now (bytes .entry)) at ⌝ }
-{
-    quad_at(bytes, at) + 4294967296 * quad_at(bytes, at + 4)
-}
-
-// The whole words of the input, and how many there are.
-fn read_words(bytes: &[u8], words: &mut [u64]) -> usize
-    requires { ⌜ length (now bytes) ≤ 8 * length (now words) ⌝ }
-    ensures { λ r. ⌜ (r ≡ length (now (bytes .entry)) / 8) × Holds (λ i. wordAt (now (bytes .entry)) (8 * i)) r (now (words .exit)) ⌝ }
-{
-    let n = bytes.len() / 8;
-    for i in 0..n {
-        words[i] = word_at(bytes, 8 * i);
-    }
-    n
-}
+ghost use Rattle.console.specs.Input.{wordRoom, Holds};
+ghost use Rattle.checks.specs.Marks.{markOf, Marked};
 
 // An index has 16-bit words, and its words in the input are below 2^16.
 fn read_index(words: &[u64], index: &mut [Word])
@@ -169,33 +104,21 @@ fn are_unchanged(array: &[u64], entries: &[u64], index: &[Word]) -> bool
     is_index_marked(index)
 }
 
-fn show_check(array: &[u64], entries: &[u64], index: &[Word], sizes: Record) {
-    if store::check(array, entries, index, sizes) {
-        io::write_all(STDOUT_FILENO, b"sound\n");
-    } else {
-        io::write_all(STDOUT_FILENO, b"unsound\n");
-    }
-}
-
 fn show_made(array: &[u64], entries: &[u64], index: &[Word], sizes: Record) {
     if are_zero(array, entries, index) {
-        io::write_all(STDOUT_FILENO, b"fresh 0 zero ");
+        io::write_all(STDOUT_FILENO, b"fresh 0 zero");
     } else {
-        io::write_all(STDOUT_FILENO, b"fresh 0 not zero ");
+        io::write_all(STDOUT_FILENO, b"fresh 0 not zero");
     }
-    io::print_decimal(STDOUT_FILENO, sizes.size as u64);
+    console::show_sizes(sizes);
     io::write_all(STDOUT_FILENO, b" ");
-    io::print_decimal(STDOUT_FILENO, sizes.allowance as u64);
-    io::write_all(STDOUT_FILENO, b" ");
-    io::print_decimal(STDOUT_FILENO, sizes.count as u64);
-    io::write_all(STDOUT_FILENO, b" ");
-    show_check(array, entries, index, sizes);
+    console::show_check(array, entries, index, sizes);
 }
 
 // The check is shown zeros there, so that nothing but the lengths is at fault.
 fn show_refused(array: &mut [u64], entries: &mut [u64], index: &mut [Word], refusal: u8) {
-    io::write_all(STDOUT_FILENO, b"fresh ");
-    io::print_decimal(STDOUT_FILENO, refusal as u64);
+    io::write_all(STDOUT_FILENO, b"fresh");
+    console::show_number(refusal as u64);
     if are_unchanged(array, entries, index) {
         io::write_all(STDOUT_FILENO, b" unchanged ");
     } else {
@@ -204,7 +127,7 @@ fn show_refused(array: &mut [u64], entries: &mut [u64], index: &mut [Word], refu
     lent::clear(array);
     lent::clear(entries);
     index::clear(index);
-    show_check(
+    console::show_check(
         array,
         entries,
         index,
@@ -230,9 +153,9 @@ fn show_fresh(array: &mut [u64], entries: &mut [u64], index: &mut [Word]) {
 fn fresh_in_room(array: usize, entries: usize, index: usize)
     requires { ⌜ (array ≤ wordRoom) × (entries ≤ wordRoom) × (index ≤ wordRoom) ⌝ }
 {
-    let mut array_words = word_room();
-    let mut entry_words = word_room();
-    let mut index_words = index_room();
+    let mut array_words = console::word_room();
+    let mut entry_words = console::word_room();
+    let mut index_words = console::index_room();
     show_fresh(
         &mut array_words[0..array],
         &mut entry_words[0..entries],
@@ -241,19 +164,11 @@ fn fresh_in_room(array: usize, entries: usize, index: usize)
 }
 
 fn fresh_of(array: usize, entries: usize, index: usize) {
-    if ROOM < array || ROOM < entries || ROOM < index {
+    if console::ROOM < array || console::ROOM < entries || console::ROOM < index {
         io::write_all(STDOUT_FILENO, b"fresh too long\n");
         return;
     }
     fresh_in_room(array, entries, index);
-}
-
-// Input that ends within a record ends the run.
-fn cut(words: &[u64]) -> usize
-    ensures { λ r. ⌜ r ≡ length (now (words .entry)) ⌝ }
-{
-    io::write_all(STDOUT_FILENO, b"cut\n");
-    words.len()
 }
 
 // Three lengths. As for each kind of record, the answer is where the record ends.
@@ -262,7 +177,7 @@ fn fresh_record(words: &[u64], at: usize) -> usize
     ensures { λ r. ⌜ (at ≤ r) × (r ≤ length (now (words .entry))) ⌝ }
 {
     if words.len() - at < 3 {
-        return cut(words);
+        return console::cut(words);
     }
     fresh_of(
         words[at] as usize,
@@ -284,24 +199,13 @@ fn end_of(words: &[u64], at: usize, count: u64) -> usize
     at + count as usize
 }
 
-fn sizes_at(words: &[u64], at: usize) -> Record
-    requires { ⌜ at + 3 ≤ length (now words) ⌝ }
-    ensures { λ r. ⌜ r ≡ sizesAt (now (words .entry)) at ⌝ }
-{
-    Record {
-        size: words[at] as usize,
-        allowance: words[at + 1] as usize,
-        count: words[at + 2] as usize,
-    }
-}
-
 fn check_of(array: &[u64], entries: &[u64], index: &[u64], sizes: Record)
     requires { ⌜ length (now index) ≤ wordRoom ⌝ }
 {
-    let mut index_words = index_room();
+    let mut index_words = console::index_room();
     read_index(index, &mut index_words);
     let n = index.len();
-    show_check(array, entries, &index_words[0..n], sizes);
+    console::show_check(array, entries, &index_words[0..n], sizes);
 }
 
 // The places where the words of the three slices begin, and where they end.
@@ -322,7 +226,7 @@ fn check_record(words: &[u64], at: usize) -> usize
     ensures { λ r. ⌜ (at ≤ r) × (r ≤ length (now (words .entry))) ⌝ }
 {
     if words.len() - at < 6 {
-        return cut(words);
+        return console::cut(words);
     }
     let array = at + 6;
     let entries = end_of(words, array, words[at]);
@@ -332,9 +236,16 @@ fn check_record(words: &[u64], at: usize) -> usize
         || ((index - entries) as u64) < words[at + 1]
         || ((end - index) as u64) < words[at + 2]
     {
-        return cut(words);
+        return console::cut(words);
     }
-    check_at(words, array, entries, index, end, sizes_at(words, at + 3));
+    check_at(
+        words,
+        array,
+        entries,
+        index,
+        end,
+        console::sizes_at(words, at + 3),
+    );
     end
 }
 
@@ -363,17 +274,7 @@ fn run(words: &[u64])
 }
 
 fn main() {
-    let mut bytes = byte_room();
-    let n = io::read_full(STDIN_FILENO, &mut bytes);
-    if n == BYTES {
-        io::write_all(STDOUT_FILENO, b"too long\n");
-        return;
-    }
-    if n % 8 != 0 {
-        io::write_all(STDOUT_FILENO, b"cut\n");
-        return;
-    }
-    let mut words = word_room();
-    let count = read_words(&bytes[..n], &mut words);
+    let mut words = console::word_room();
+    let count = console::read_input(&mut words);
     run(&words[0..count]);
 }

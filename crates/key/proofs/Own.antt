@@ -67,7 +67,7 @@ key-ways w k e = elim (ways w) [
 pub canonical-own : (w k : Words) → canonicalKey w ≡ Key k → canonicalKey k ≡ Key k
 canonical-own w k e = elim (key-ways w k e) [ inl a ↦ rw (a .1) (canonical-integer (a .0)) | inr a ↦ rw (a .0) (a .1) ]
 
-integer-decodes : (n : ℕ) → decodes (integer n) ≡ true
+pub integer-decodes : (n : ℕ) → decodes (integer n) ≡ true
 unfolding decodes
 integer-decodes n = refl
 

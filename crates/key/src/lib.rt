@@ -4,7 +4,7 @@ use value::Words;
 ghost use mathlib.Core.Path.{_≡_};
 ghost use Prim.Native.Nat.{_≤_, _<_, _^_};
 ghost use lib.Ieee.{binary64, ofBits, ofFields, size};
-ghost use Rattle.key.specs.Canonical.{wholeOf, wholeKey, numberKey, canonicalKey, arrayIndex};
+ghost use Rattle.key.specs.Canonical.{wholeOf, wholeKey, numberKey, canonicalKey, onKey, arrayIndex};
 
 // The paper's refusal numbers. The first two say why a key has no canonical form.
 pub const KEY_IS_NIL: u8 = 1;
@@ -133,6 +133,16 @@ pub fn canonical_key(key: Words) -> CanonicalKey
         0 => CanonicalKey::No(KEY_IS_NIL),
         3 => number_key(key.payload),
         _ => CanonicalKey::Key(key),
+    }
+}
+
+// The refusal number of a key that has no canonical form; 0 for one that has.
+pub fn refusal(key: CanonicalKey) -> u8
+    ensures { λ r. ⌜ r ≡ onKey key (λ n. n) (λ k. 0) ⌝ }
+{
+    match key {
+        CanonicalKey::Key(_) => 0,
+        CanonicalKey::No(n) => n,
     }
 }
 

@@ -1,3 +1,4 @@
 pub mod Says
 pub mod Cleared
 pub mod Lent
+pub mod Put

@@ -3,7 +3,7 @@
 use mathlib.Core.Path.{_≡_}
 use mathlib.Core.List.{List, [], _∷_, _++_}
 use Prim.Native.Nat.{ℕ, _+_, _-_, _*_, _^_, _≤_, _<_}
-use lib.ListN.{length, getD, replicate}
+use lib.ListN.{length, getD, set, replicate}
 use Rattle.value.specs.declared.Words.{Words}
 use Rattle.value.specs.Encoding.{words, Decodes}
 
@@ -34,3 +34,10 @@ AllDecode ws = (i : ℕ) → 2 * i + 2 ≤ length ws → Decodes (valueAt ws i)
 -- every word from place j on is 0
 abbrev pub ZeroFrom : ℕ → List ℕ → Type 0
 ZeroFrom j ws = (i : ℕ) → j ≤ i → i + 1 ≤ length ws → getD ws i 0 ≡ 0
+
+-- value i written over, and entry i: its key and then its value
+unfoldable pub putValue : List ℕ → ℕ → Words → List ℕ
+putValue ws i v = set (set ws (2 * i) (v .kind)) (2 * i + 1) (v .payload)
+
+unfoldable pub putEntry : List ℕ → ℕ → Words → Words → List ℕ
+putEntry ws i k v = putValue (putValue ws (2 * i) k) (2 * i + 1) v

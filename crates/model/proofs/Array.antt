@@ -46,6 +46,9 @@ inside A k e =
     record { i = k .payload - 1; i< = ltb-true (k .payload - 1) A (rw y at e); is = λ j. record { kind = kind j; payload = pay j }; index = rw y; small = omega arith })
     (λ n. absurd (true≢false (sym (rw n at e))))
 
+pub place-within : (A : ℕ) (k : Words) → within A k ≡ true → placeOf k < A
+place-within A k h = let i = inside A k h in rw (i .index) (i .i<)
+
 pub within-integer : (A i : ℕ) → i < A → i < largest → within A (integer (suc i)) ≡ true
 unfolding within
 within-integer A i h g = rw (index-integer i g) (lt-ltb i A h)

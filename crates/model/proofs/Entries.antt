@@ -9,10 +9,10 @@ use native.Mathlib.Omega.{arith}
 use lib.ListN.{length, getD, set, length-map}
 use lib.Seq.{ext-getD}
 use Rattle.value.specs.declared.Words.{Words}
-use Rattle.value.specs.Same.{same, nil}
-use Rattle.value.proofs.Cases.{caseb, clash, or-right}
+use Rattle.value.specs.Same.{same, nil, isNil}
+use Rattle.value.proofs.Cases.{caseb, clash, or-right, never}
 use Rattle.value.proofs.Same.{same-eq, same-refl, ne-same, same-sym}
-use Rattle.model.specs.Entries.{Entry, entry, keysOf, member, distinct, has, find, put, keep, Each}
+use Rattle.model.specs.Entries.{Entry, entry, keysOf, member, distinct, has, find, put, keep, Each, found, first, from}
 use Rattle.model.specs.Growth.{tabulate}
 
 -- a map with v at k
@@ -105,6 +105,14 @@ find-keep p (s ∷ ss) k d h =
     rw (b, e) (find-absent (keep p ss) k (has-keep p ss k n) ∙ sym (h s q b)))
     (λ e. rw (b, e) (find-keep p ss k (d .1) h)))
 
+pub keep-snoc : {X : Type 0} (p : X → Bool) (l : List X) (x : X) → keep p (l ++ (x ∷ [])) ≡ keep p l ++ keep p (x ∷ [])
+keep-snoc p [] x = refl
+keep-snoc p (y ∷ ys) x = caseb (p y) (λ e. rw (e, keep-snoc p ys x)) (λ e. rw (e, keep-snoc p ys x))
+
+pub keep-all : {X : Type 0} (p : X → Bool) (l : List X) → Each (λ (x : X). p x ≡ true) l → keep p l ≡ l
+keep-all p [] a = refl
+keep-all p (x ∷ xs) a = rw (a .0, keep-all p xs (a .1))
+
 pub length-keep : {X : Type 0} (p : X → Bool) (l : List X) → length (keep p l) ≤ length l
 length-keep p [] = omega arith
 length-keep p (s ∷ ss) = let h : length (keep p ss) ≤ length ss = length-keep p ss in caseb (p s) (λ e. rw e (omega arith)) (λ e. rw e (omega arith))
@@ -158,6 +166,19 @@ each-set P (y ∷ ys) (suc i) x h a = (a .0, each-set P ys i x h (a .1))
 pub each-tabulate : {X : Type 0} (P : X → Type 0) (n : ℕ) (f : ℕ → X) (i : ℕ) → ((j : ℕ) → i ≤ j → j < i + n → P (f j)) → Each P (tabulate n f i)
 each-tabulate P zero f i h = tt
 each-tabulate P (suc n) f i h = (h i (omega arith) (omega arith), each-tabulate P n f (suc i) (λ j a b. h j (omega arith) (omega arith)))
+
+-- what a walk hands out is a pair of the list
+module _ (P : Entry → Type 0) (k v : Words) where
+  pub each-first : (l : List Entry) → Each P l → first l ≡ found k v → P (entry k v)
+  each-first [] a h = never (cc)
+  each-first (s ∷ ss) a h =
+      caseb (isNil (s .value))
+      (λ e. each-first ss (a .1) (rw e at h))
+      (λ e. let q : found (s .key) (s .value) ≡ found k v = rw e at h in let p : entry (s .key) (s .value) ≡ entry k v = cc in subst P p (a .0))
+
+  pub each-from : (l : List Entry) (j : Words) → Each P l → from l j ≡ found k v → P (entry k v)
+  each-from [] j a h = never (cc)
+  each-from (s ∷ ss) j a h = caseb (same (s .key) j) (λ e. each-first ss (a .1) (rw e at h)) (λ e. each-from ss j (a .1) (rw e at h))
 
 -- ---- by place
 pub each-at : {X : Type 0} (P : X → Type 0) (d : X) (l : List X) → Each P l → (i : ℕ) → i < length l → P (getD l i d)
@@ -223,3 +244,12 @@ tabulate-is l f d p =
 pub map-tabulate : {X Y : Type 0} (g : X → Y) (n : ℕ) (f : ℕ → X) (i : ℕ) → map g (tabulate n f i) ≡ tabulate n (λ j. g (f j)) i
 map-tabulate g zero f i = refl
 map-tabulate {Y = Y} g (suc n) f i = ap {B = List Y} (λ r. g (f i) ∷ r) (map-tabulate g n f (suc i))
+
+pub tabulate-snoc : {X : Type 0} (n : ℕ) (f : ℕ → X) (i : ℕ) → tabulate (suc n) f i ≡ tabulate n f i ++ (f (i + n) ∷ [])
+tabulate-snoc {X = X} zero f i = ap {B = List X} (λ j. f j ∷ []) (omega arith)
+tabulate-snoc {X = X} (suc n) f i =
+    ap {B = List X} (λ r. f i ∷ r) (tabulate-snoc n f (suc i) ∙ ap {B = List X} (λ j. tabulate n f (suc i) ++ (f j ∷ [])) (omega arith))
+
+pub tabulate-cong : {X : Type 0} (n : ℕ) (f g : ℕ → X) (i : ℕ) → ((j : ℕ) → i ≤ j → j < i + n → f j ≡ g j) → tabulate n f i ≡ tabulate n g i
+tabulate-cong zero f g i h = refl
+tabulate-cong (suc n) f g i h = rw (h i (omega arith) (omega arith), tabulate-cong n f g (suc i) (λ j a b. h j (omega arith) (omega arith)))

@@ -1,27 +1,29 @@
--- A well-formed table stays well-formed: a fresh one is, and every set and reserve keeps it (01, 'The store'). Assumes nothing.
+-- A well-formed table stays well-formed: a fresh one is, and every set and reserve keeps it (01, 'The store'). What it answers decodes.
+-- Assumes nothing.
 use mathlib.Core.Path.{_≡_, refl}
 use mathlib.Core.Bool.{true, false, not}
 use mathlib.Core.List.{List, [], _∷_}
-use mathlib.Core.Logic.{inl}
+use mathlib.Core.Logic.{inl, inr}
 use Prim.Native.Nat.{ℕ, zero, suc, _+_, _-_, _*_, _≤_, _<_, max}
 use native.Mathlib.Omega.{arith}
-use lib.Dec.{leb, ltb}
+use lib.Dec.{eqb, leb, ltb}
 use lib.ListN.{length, getD, length-set, length-append}
 use borrow.Author.Tests.{leb-true, leb-false, ltb-true, ltb-false, not-true}
 use Rattle.value.specs.declared.Words.{Words}
 use Rattle.value.specs.Encoding.{decodes, Decodes}
 use Rattle.value.specs.Same.{same, nil, isNil}
-use Rattle.value.proofs.Cases.{caseb, and-right}
+use Rattle.value.proofs.Cases.{caseb, and-right, never}
 use Rattle.key.specs.declared.CanonicalKey.the-variants.{Key}
+use Rattle.key.specs.Refusals.{keyIsNil}
 use Rattle.key.specs.Canonical.{integer, canonicalKey}
-use Rattle.key.proofs.Own.{by-key, canonical-own, canonical-decodes}
-use Rattle.model.specs.Entries.{Entry, entry, keysOf, has, find, keep, live, Each}
-use Rattle.model.specs.Table.{Room, Table, fresh, within, placeOf, lookup}
+use Rattle.key.proofs.Own.{by-key, canonical-own, integer-decodes, canonical-decodes}
+use Rattle.model.specs.Entries.{Entry, entry, keysOf, has, find, keep, live, Each, found, notFound}
+use Rattle.model.specs.Table.{Room, Table, fresh, within, placeOf, arrayPairs, pairs, lookup, getOf, nextOf}
 use Rattle.model.specs.Growth.{optimalSize, stays, rehashed, grownAllowance}
 use Rattle.model.specs.Calls.{writeArray, writeEntry, append, placeIn, grow, setKey, setOf, reserveOf}
 use Rattle.model.specs.WellFormed.{Fair, ZeroOrPower, WellFormed, DecodesBoth, Canonical, Outside}
-use Rattle.model.proofs.Entries.{put-keys, length-put, keys-append, length-keep, distinct-snoc, distinct-keep, each-append, each-keep, each-put, each-set, each-tabulate}
-use Rattle.model.proofs.Map.{set-key, set-no-key, rehashed-length, absent-still}
+use Rattle.model.proofs.Entries.{put-keys, length-put, keys-append, length-keep, distinct-snoc, distinct-keep, each-append, each-keep, each-put, each-set, each-tabulate, each-first, each-from}
+use Rattle.model.proofs.Map.{set-key, set-no-key, rehashed-length, absent-still, set-sets}
 use Rattle.model.proofs.Size.{size-le, size-power}
 
 nil-decodes : Decodes nil
@@ -199,3 +201,32 @@ reserve-kept room t n w =
       outside = each-keep (Outside (length (t .array))) (Outside (length (t .array))) live (t .entries) (λ s e o. o) (w .outside);
       apart = distinct-keep live (t .entries) (w .apart);
     }))))
+
+-- ---- what a call answers decodes
+pub get-decodes : (room : Room) (t : Table) (key : Words) → WellFormed room t → Decodes (getOf t key)
+unfolding getOf
+get-decodes room t key w = by-key key (λ k e. rw e (lookup-decodes room t k w)) (λ n e. rw e nil-decodes)
+
+pub previous-decodes : (room : Room) (t : Table) (key v : Words) → WellFormed room t → Decodes ((setOf room t key v) .previous)
+previous-decodes room t key v w =
+    by-key key
+    (λ k e. rw (set-key room t key v k e) (elim (set-sets room t k v w) [ inl s ↦ rw (s .previously) (lookup-decodes room t k w) | inr p ↦ rw p nil-decodes ]))
+    (λ n e. rw (set-no-key room t key v n e) nil-decodes)
+
+array-decodes : (vs : List Words) (n : ℕ) → Each Decodes vs → Each DecodesBoth (arrayPairs n vs)
+array-decodes [] n a = tt
+array-decodes (v ∷ vs) n a = ((integer-decodes (suc n), a .0), array-decodes vs (suc n) (a .1))
+
+pairs-decode : (room : Room) (t : Table) → WellFormed room t → Each DecodesBoth (pairs t)
+unfolding pairs
+pairs-decode room t w = each-append DecodesBoth (arrayPairs 0 (t .array)) (t .entries) (array-decodes (t .array) 0 (w .arrayDecodes)) (w .entriesDecode)
+
+pub next-decodes : (room : Room) (t : Table) (key k v : Words) → WellFormed room t → nextOf t key ≡ found k v → Decodes k × Decodes v
+unfolding nextOf
+next-decodes room t key k v w h =
+    let d : Each DecodesBoth (pairs t) = pairs-decode room t w in
+    by-key key
+    (λ j e. each-from DecodesBoth k v (pairs t) j d (rw e at h))
+    (λ n e. caseb (eqb n keyIsNil)
+    (λ b. each-first DecodesBoth k v (pairs t) d (rw (e, b) at h))
+    (λ b. let q : notFound ≡ found k v = rw (e, b) at h in never (cc)))

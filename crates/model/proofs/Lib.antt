@@ -1,5 +1,6 @@
 -- The laws of the table, leaves first, and its theorems.
 pub mod Entries
+pub mod Places
 pub mod Array
 pub mod Size
 pub mod Map

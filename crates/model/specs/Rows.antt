@@ -72,7 +72,7 @@ pub record Row : Type 0 where
   pub room : Room
   pub lines : List Line
 
--- room for a array values and e entries, under the base's seventeen classes
+-- room for a array values and e entries, under the seventeen classes of 01
 abbrev pub row : ℕ → ℕ → List Line → Row
 row a e ls = record { room = record { arrayRoom = a; entryRoom = e; classes = 17 }; lines = ls }
 

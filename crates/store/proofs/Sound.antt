@@ -1,7 +1,7 @@
 -- A store is sound exactly when 01's clauses hold of it, and then it is the writing of the table that it is read as. Assumes nothing.
-use mathlib.Core.Path.{_≡_, sym, ap, subst, _∙_}
+use mathlib.Core.Path.{_≡_, refl, sym, ap, subst, _∙_}
 use mathlib.Core.List.{List}
-use Prim.Native.Nat.{ℕ, _+_, _*_, _^_, _≤_, _<_}
+use Prim.Native.Nat.{ℕ, _+_, _-_, _*_, _^_, _≤_, _<_}
 use native.Mathlib.Omega.{arith}
 use lib.ListN.{length}
 use Rattle.value.specs.declared.Words.{Words}
@@ -15,13 +15,18 @@ use Rattle.model.specs.Entries.{Entry, entry, keysOf}
 use Rattle.model.specs.Table.{Table}
 use Rattle.model.specs.Growth.{tabulate}
 use Rattle.model.specs.WellFormed.{Fair, DecodesBoth, Canonical, Outside, WellFormed}
-use Rattle.model.proofs.Entries.{each-tabulate, length-tabulate, tabulate-each}
+use Rattle.model.proofs.Entries.{each-tabulate, tabulate-each}
 use Rattle.store.specs.declared.Record.{Record}
+use Rattle.store.specs.Limits.{arrayLimit, classCounts}
 use Rattle.store.specs.Store.{slices, Store, store, Lengths, lengths, lengthsOf, roomOf}
 use Rattle.store.specs.Shape.{RightLengths, Shape}
 use Rattle.store.specs.Written.{sides, keyHomes, written, Sound, entryAt, tableOf}
 use Rattle.store.specs.Clauses.{Clauses}
-use Rattle.store.proofs.Views.{length-sides, each-sides, sides-tabulate, table-written, values-lent, distinct-read, read-distinct, index-read}
+use Rattle.store.proofs.Views.{length-sides, each-sides, length-array, length-entries, sides-tabulate, table-written, values-lent, distinct-read, read-distinct, index-read}
+
+-- the class counts leave out the indices from the largest room up, and no others (01, 'Growth', step 1)
+pub classes-reach : 2 ^ (classCounts - 1) ≡ arrayLimit
+classes-reach = refl
 
 pub right-fair : (l : Lengths) → RightLengths l → Fair (roomOf l)
 right-fair l h = record { integers = omega (arith, h .arrayMost); counted = omega (arith, h .arrayMost) }
@@ -98,12 +103,6 @@ module _ (s : Store) where
   abbrev entries : List Entry
   entries = tabulate E (entryAt ew) 0
 
-  lenA : length array ≡ A
-  lenA = length-tabulate A (valueAt aw) 0
-
-  lenE : length entries ≡ E
-  lenE = length-tabulate E (entryAt ew) 0
-
   pub clauses-sound : Clauses s → Sound s
   unfolding tableOf written
   clauses-sound c =
@@ -121,19 +120,19 @@ module _ (s : Store) where
         formed =
             record {
               fair = right-fair (lengthsOf (s .slices)) (h .lengths);
-              arrayFits = rw lenA (h .sizeFits);
-              entriesFit = rw lenE (h .countFits);
+              arrayFits = rw (length-array s) (h .sizeFits);
+              entriesFit = rw (length-entries s) (h .countFits);
               allowanceFits = h .allowanceFits;
-              power = rw lenA (c .power);
+              power = rw (length-array s) (c .power);
               arrayDecodes = each-tabulate Decodes A (valueAt aw) 0 (λ i a b. c .arrayDecodes i (omega (arith, fa)));
               entriesDecode =
                   each-tabulate DecodesBoth E (entryAt ew) 0
                   (λ i a b. (c .entriesDecode (2 * i) (omega (arith, fe)), c .entriesDecode (2 * i + 1) (omega (arith, fe))));
               canonical = each-tabulate Canonical E (entryAt ew) 0 (λ i a b. c .canonical i (omega arith));
-              outside = rw lenA (each-tabulate (Outside A) E (entryAt ew) 0 (λ i a b. c .outside i (omega arith)));
+              outside = rw (length-array s) (each-tabulate (Outside A) E (entryAt ew) 0 (λ i a b. c .outside i (omega arith)));
               apart = distinct-read ew E (c .distinct);
             };
-        is = λ j. store (slices (pa j) (pe j) (pi j)) (record { size = sym lenA j; allowance = s .sizes .allowance; count = sym lenE j });
+        is = λ j. store (slices (pa j) (pe j) (pi j)) (record { size = sym (length-array s) j; allowance = s .sizes .allowance; count = sym (length-entries s) j });
         arrayWords = c .arrayWords;
         entryWords = c .entryWords;
       }
@@ -145,22 +144,22 @@ module _ (s : Store) where
       let is : s ≡ written (lengthsOf (s .slices)) (tableOf s) = sound-written s S in
       let za : ZeroFrom (2 * A) aw =
       subst (ZeroFrom (2 * A)) (sym (ap (λ (x : Store). x .slices .array) is))
-      (λ i b. zero-lent (length aw) array i (omega (arith, b, lenA))) in
+      (λ i b. zero-lent (length aw) array i (omega (arith, b, length-array s))) in
       let ze : ZeroFrom (4 * E) ew =
       subst (ZeroFrom (4 * E)) (sym (ap (λ (x : Store). x .slices .entries) is))
-      (λ i b. zero-lent (length ew) (sides entries) i (omega (arith, b, length-sides entries, lenE))) in
+      (λ i b. zero-lent (length ew) (sides entries) i (omega (arith, b, length-sides entries, length-entries s))) in
       record {
         shape =
-            record { lengths = S .lengths; sizeFits = rw lenA at (w .arrayFits); countFits = rw lenE at (w .entriesFit); allowanceFits = w .allowanceFits };
+            record { lengths = S .lengths; sizeFits = rw (length-array s) at (w .arrayFits); countFits = rw (length-entries s) at (w .entriesFit); allowanceFits = w .allowanceFits };
         arrayWords = S .arrayWords;
         entryWords = S .entryWords;
-        power = rw lenA at (w .power);
+        power = rw (length-array s) at (w .power);
         arrayDecodes = all-decode A aw (tabulate-each Decodes nil A (valueAt aw) (w .arrayDecodes)) za;
         entriesDecode =
             all-decode (2 * E) ew (tabulate-each Decodes nil (2 * E) (valueAt ew) (rw (sides-tabulate ew E 0) at (each-sides entries (w .entriesDecode))))
             (λ i b. ze i (omega arith));
         canonical = tabulate-each Canonical (entry nil nil) E (entryAt ew) (w .canonical);
-        outside = tabulate-each (Outside A) (entry nil nil) E (entryAt ew) (rw lenA at (w .outside));
+        outside = tabulate-each (Outside A) (entry nil nil) E (entryAt ew) (rw (length-array s) at (w .outside));
         distinct = read-distinct ew E (w .apart);
         arrayUnused = za;
         entriesUnused = ze;

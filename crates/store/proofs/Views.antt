@@ -17,7 +17,7 @@ use Rattle.model.specs.Table.{Table}
 use Rattle.model.specs.Growth.{tabulate}
 use Rattle.model.specs.WellFormed.{DecodesBoth}
 use Rattle.model.proofs.Entries.{distinct-apart, apart-distinct, length-tabulate, tabulate-at, tabulate-is, map-tabulate}
-use Rattle.store.specs.Store.{Lengths}
+use Rattle.store.specs.Store.{Store, Lengths}
 use Rattle.store.specs.Written.{sides, keyHomes, written, entryAt, tableOf}
 
 -- ---- entries as values
@@ -45,6 +45,15 @@ sides-tabulate ws (suc n) i =
     let r : 2 * suc i ≡ suc (suc (2 * i)) = omega arith in
     (λ j. valueAt ws (2 * i) ∷ valueAt ws (q j) ∷ (sides-tabulate ws n (suc i) ∙ ap (tabulate (2 * n) (valueAt ws)) r) j)
     ∙ ap (λ (m : ℕ). tabulate m (valueAt ws) (2 * i)) (sym p)
+
+-- ---- how long the table is that a store is read as
+pub length-array : (s : Store) → length (tableOf s .array) ≡ s .sizes .size
+unfolding tableOf
+length-array s = length-tabulate (s .sizes .size) (valueAt (s .slices .array)) 0
+
+pub length-entries : (s : Store) → length (tableOf s .entries) ≡ s .sizes .count
+unfolding tableOf
+length-entries s = length-tabulate (s .sizes .count) (entryAt (s .slices .entries)) 0
 
 -- ---- what is written reads back
 entry-lent : (n : ℕ) (es : List Entry) (i : ℕ) → i < length es → entryAt (lentWords n (sides es)) i ≡ getD es i (entry nil nil)

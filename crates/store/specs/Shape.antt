@@ -4,7 +4,7 @@ use Prim.Native.Nat.{_*_, _≤_}
 use Rattle.model.specs.WellFormed.{Power}
 use Rattle.store.specs.declared.Record.{Record}
 use Rattle.store.specs.Limits.{arrayLimit, entryLimit, indexLimit}
-use Rattle.store.specs.Store.{Lengths, roomOf}
+use Rattle.store.specs.Store.{Store, Lengths, lengthsOf, roomOf}
 
 -- the lengths are right: whole values and entries, as many as the limits allow, and a power of two of index words, two an entry at least
 pub record RightLengths (l : Lengths) : Type 0 where
@@ -23,3 +23,6 @@ pub record Shape (l : Lengths) (r : Record) : Type 0 where
   pub sizeFits : r .size ≤ (roomOf l) .arrayRoom
   pub countFits : r .count ≤ r .allowance
   pub allowanceFits : r .allowance ≤ (roomOf l) .entryRoom
+
+abbrev pub Shaped : Store → Type 0
+Shaped s = Shape (lengthsOf (s .slices)) (s .sizes)

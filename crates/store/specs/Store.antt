@@ -21,6 +21,10 @@ slices aw ew iw = record { array = aw; entries = ew; index = iw }
 abbrev pub store : Slices → Record → Store
 store l r = record { slices = l; sizes = r }
 
+-- the store in these array words, entry words and index words
+abbrev pub storeOf : List ℕ → List ℕ → List ℕ → Record → Store
+storeOf aw ew iw r = store (slices aw ew iw) r
+
 -- how many words each slice has
 pub record Lengths : Type 0 where
   pub array : ℕ

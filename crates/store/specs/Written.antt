@@ -2,10 +2,11 @@
 -- exactly when it is the writing of a well-formed table of its room in 64-bit words (01, 'The store'). Assumes nothing.
 use mathlib.Core.Path.{_≡_}
 use mathlib.Core.List.{List, [], _∷_}
-use Prim.Native.Nat.{ℕ, _+_, _*_}
+use Prim.Native.Nat.{ℕ, suc, _+_, _*_}
 use lib.ListN.{length, getD}
 use Rattle.value.specs.declared.Words.{Words}
 use Rattle.value.specs.Same.{nil}
+use Rattle.key.specs.Canonical.{integer}
 use Rattle.lent.specs.Lent.{valueAt, lentWords, WordSized}
 use Rattle.index.specs.Home.{homeOf}
 use Rattle.index.specs.Index.{indexOf}
@@ -46,10 +47,14 @@ pub record Sound (s : Store) : Type 0 where
   pub arrayWords : WordSized (s .slices .array)
   pub entryWords : WordSized (s .slices .entries)
 
--- the table that these words are read as
+-- place i of these array words as a pair, and entry i of these entry words
+abbrev pub pairAt : List ℕ → ℕ → Entry
+pairAt ws i = entry (integer (suc i)) (valueAt ws i)
+
 abbrev pub entryAt : List ℕ → ℕ → Entry
 entryAt ws i = entry (valueAt ws (2 * i)) (valueAt ws (2 * i + 1))
 
+-- the table that a store is read as
 unfoldable pub tableOf : Store → Table
 tableOf s =
     record {

@@ -10,7 +10,7 @@ ghost use lib.ListN.{length};
 ghost use Rattle.key.specs.declared.CanonicalKey.the-variants.{Key};
 ghost use Rattle.key.specs.Canonical.{canonicalKey};
 ghost use Rattle.lent.specs.Says.{Says};
-ghost use Rattle.model.specs.Table.{within};
+ghost use Rattle.model.specs.Table.{within, placeOf};
 ghost use Rattle.model.specs.WellFormed.{Power, ZeroOrPower};
 ghost use Rattle.store.specs.Store.{slices, store, lengths};
 ghost use Rattle.store.specs.Shape.{RightLengths, Shape};
@@ -98,6 +98,16 @@ pub fn is_within(key: Words, size: usize) -> bool
     match key::array_index(key) {
         ArrayIndex::At(i) => i < size as u64,
         ArrayIndex::Nothing => false,
+    }
+}
+
+// The place in the array of a key that has an array index.
+pub fn place_of(key: Words) -> usize
+    ensures { λ r. ⌜ r ≡ placeOf key ⌝ }
+{
+    match key::array_index(key) {
+        ArrayIndex::At(i) => i as usize,
+        ArrayIndex::Nothing => 0,
     }
 }
 

@@ -16,7 +16,7 @@ use Rattle.value.specs.declared.Value.the-variants.{Nil, Boolean, Intege
 use Rattle.value.specs.declared.Words.{Words}
 use Rattle.value.specs.declared.Decoded.{Decoded}
 use Rattle.value.specs.declared.Decoded.the-variants.{Value as Good, Undecodable}
-use Rattle.value.specs.Encoding.{words, kindOf, payloadOf, encoded, numberOf, pick, decodedAs, decoded, isGood, decodes, Typed, settled}
+use Rattle.value.specs.Encoding.{words, kindOf, payloadOf, encoded, numberOf, pick, decodedAs, decoded, isGood, orNil, valueOf, decodes, Typed, settled}
 use Rattle.value.specs.Same.{same, isNil}
 use Rattle.value.proofs.Cases.{caseb, clash, never}
 
@@ -103,6 +103,15 @@ read-settled w v l e = let p : Good (settled v) ≡ Good v = sym (stored-read v 
 pub encoded-decodes : (v : Value) → Typed v → decodes (encoded v) ≡ true
 unfolding decodes
 encoded-decodes v t = ap isGood (stored-read v t)
+
+-- words that are a value's are read as that value
+pub value-read : (w : Words) → decodes w ≡ true → decoded w ≡ Good (valueOf w)
+unfolding decodes
+value-read w d = go (decoded w) d
+  where
+    go : (r : Decoded) → isGood r ≡ true → r ≡ Good (orNil r)
+    go (Good v) e = refl
+    go Undecodable e = clash e refl
 
 -- a stored value is Nil exactly when its kind word is 0
 pub nil-kind : (w : Words) → decodes w ≡ true → isNil w ≡ eqb (w .kind) 0

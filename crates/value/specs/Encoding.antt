@@ -84,6 +84,14 @@ abbrev pub isGood : Decoded → Bool
 isGood (Good v) = true
 isGood Undecodable = false
 
+-- the value that is read: Nil where the words are no value's
+abbrev pub orNil : Decoded → Value
+orNil (Good v) = v
+orNil Undecodable = Nil
+
+abbrev pub valueOf : Words → Value
+valueOf w = orNil (decoded w)
+
 -- whether two words are a value's
 unfoldable pub decodes : Words → Bool
 decodes w = isGood (decoded w)

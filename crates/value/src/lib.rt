@@ -4,8 +4,8 @@ ghost use mathlib.Core.Path.{_≡_};
 ghost use mir.Syntax.{w64};
 ghost use mir.Val.{ofZ, toZ};
 ghost use lib.Ieee.{binary64, toBits, nanBits};
-ghost use Rattle.value.specs.Encoding.{kindOf, payloadOf, encoded, numberOf, decoded};
-ghost use Rattle.value.specs.Same.{same};
+ghost use Rattle.value.specs.Encoding.{kindOf, payloadOf, encoded, numberOf, decoded, valueOf};
+ghost use Rattle.value.specs.Same.{same, nil as nilWords, isNil};
 
 // Kinds 4 to 9 carry a handle of the host's.
 pub enum Function {
@@ -179,5 +179,31 @@ pub fn are_same(a: Words, b: Words) -> bool
         a.payload == b.payload
     } else {
         false
+    }
+}
+
+// Nil, as it is stored.
+pub fn nil() -> Words
+    ensures { λ r. ⌜ r ≡ nilWords ⌝ }
+{
+    Words {
+        kind: 0,
+        payload: 0,
+    }
+}
+
+pub fn is_nil(w: Words) -> bool
+    ensures { λ r. ⌜ r ≡ isNil w ⌝ }
+{
+    are_same(w, nil())
+}
+
+// The value that words stand for; Nil where they stand for none, which a sound store never has.
+pub fn value_of(w: Words) -> Value
+    ensures { λ r. ⌜ r ≡ valueOf w ⌝ }
+{
+    match decode(w) {
+        Decoded::Value(v) => v,
+        Decoded::Undecodable => Value::Nil,
     }
 }

@@ -1,7 +1,7 @@
 -- `checks::are_zero` meets its contract. Assumes nothing.
 use borrow.Author.Needs.{needs}
 use Rattle.lent.proofs.Says.{says-no, said-no}
-use Rattle.checks.proofs.Words.{all-three}
+use Rattle.checks.proofs.Tests.{all-three}
 use Rattle.checks.proofs.are_zero.Statement.{statement}
 use Rattle.checks.proofs.are_zero.Tie as tie
 

@@ -4,7 +4,8 @@ use Prim.Native.Nat.{_-_, _≤_}
 use native.Mathlib.Omega.{arith}
 use lib.ListN.{length}
 use Rattle.lent.proofs.Says.{says-yes, says-no, none-below, one-more}
-use Rattle.checks.specs.Marks.{markOf, Holds}
+use Rattle.console.specs.Input.{Holds}
+use Rattle.checks.specs.Marks.{markOf}
 use Rattle.checks.proofs.is_index_marked.Statement.{statement}
 use Rattle.checks.proofs.is_index_marked.Tie as tie
 

@@ -4,7 +4,7 @@ use Prim.Native.Nat.{_-_, _≤_}
 use native.Mathlib.Omega.{arith}
 use lib.ListN.{length}
 use Rattle.checks.specs.Marks.{markOf}
-use Rattle.checks.proofs.Words.{Written, none-written, one-written}
+use Rattle.console.proofs.Words.{Written, none-written, one-written}
 use Rattle.checks.proofs.mark_words.Statement.{statement}
 use Rattle.checks.proofs.mark_words.Tie as tie
 

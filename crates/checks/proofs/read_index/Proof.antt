@@ -3,7 +3,7 @@ use mathlib.Core.Path.{_≡_, refl}
 use Prim.Native.Nat.{_-_, _%_, _≤_}
 use native.Mathlib.Omega.{arith}
 use lib.ListN.{length, getD}
-use Rattle.checks.proofs.Words.{Written, none-written, one-written}
+use Rattle.console.proofs.Words.{Written, none-written, one-written}
 use Rattle.checks.proofs.read_index.Statement.{statement}
 use Rattle.checks.proofs.read_index.Tie as tie
 

@@ -1,0 +1,93 @@
+-- Demand 2 on stores: whatever words meet the promises, call after call from a fresh store, the answers are the original's while there is room,
+-- and so are gets, the pairs of a walk, and the length where there is one border. Assumes nothing.
+use mathlib.Core.Path.{_≡_, refl, sym, ap, ap₂, subst, _∙_}
+use mathlib.Core.List.{List, [], _∷_}
+use Prim.Native.Nat.{ℕ}
+use Rattle.value.specs.declared.Words.{Words}
+use Rattle.model.specs.Entries.{Entry, Each}
+use Rattle.model.specs.Table.{Table, fresh, nextOf}
+use Rattle.model.specs.Manual.{Lists, end as last, more as then}
+use Rattle.model.specs.Calls.{Outcome}
+use Rattle.original.specs.Original.{Original, new}
+use Rattle.original.specs.Runs.{Call, get, set, reserve, Answer, was, Run, says, told, ours, Roomy, Runs, Kinds, Comparable}
+use Rattle.original.specs.Agreement.{Agree}
+use Rattle.original.proofs.Demand2.{demand2 as model-agrees}
+use Rattle.store.specs.declared.Record.{Record}
+use Rattle.store.specs.declared.Made.the-variants.{Store as Stored}
+use Rattle.store.specs.Store.{Slices, Store, store, lengthsOf, roomOf}
+use Rattle.store.specs.Written.{Sound, tableOf}
+use Rattle.store.specs.Fresh.{FreshMade}
+use Rattle.store.proofs.Views.{table-written}
+use Rattle.store.proofs.Sound.{sound-formed}
+use Rattle.store.proofs.Unique.{fresh-made-sound}
+use Rattle.reads.specs.declared.GotWords.the-variants.{Value}
+use Rattle.reads.specs.declared.NextWords.the-variants.{Found, Last}
+use Rattle.reads.specs.declared.Measured.the-variants.{Length}
+use Rattle.reads.proofs.Unique.{get-done, length-done}
+use Rattle.writes.specs.Writes.{Left, Promised, roomFor}
+use Rattle.demands.specs.Calls.{gotAnswer, leftAnswer, Called, none, got, wrote, reserved, ValuesPassed, Listed, end, more, Agrees}
+use Rattle.demands.proofs.Answers.{next-is, is-next, refusal-is, previous-is, table-is, Stays, set-stays, reserve-stays}
+
+-- ---- calls on a store are calls on its table
+-- what a run of the table says, and the table that it ends in, are said and held here
+abbrev pub Goes : Run → List Answer → Store → Type 0
+Goes run xs u = Sound u × (xs ≡ run .said) × (tableOf u ≡ run .finally)
+
+-- a call that writes, and then these calls
+wrote-first : {s u : Store} {o : Outcome} {Numbers : ℕ → Type 0} {Given : Type 0} {l : Left} (cs : List Call) {xs : List Answer} → Sound s → Promised s o Numbers Given l → Stays s (l .store)
+    → Goes (ours (roomFor (l .store)) (tableOf (l .store)) cs) xs u → Goes (says (told o) (ours (roomFor s) (o .table) cs)) (leftAnswer l ∷ xs) u
+wrote-first {s = s} {o = o} {l = l} cs S p n rest =
+    let run : ours (roomFor (l .store)) (tableOf (l .store)) cs ≡ ours (roomFor s) (o .table) cs = λ j. ours (roomOf (n .lengths j)) (table-is S p j) cs in (
+      rest .0,
+      ap₂ {C = List Answer} (λ x y. x ∷ y) (ap₂ was (refusal-is S p) (previous-is S p)) (rest .1 ∙ ap (λ (x : Run). x .said) run),
+      rest .2 ∙ ap (λ (x : Run). x .finally) run,
+    )
+
+pub called : {s u : Store} {cs : List Call} {xs : List Answer} → Sound s → Each ValuesPassed cs → Called s cs xs u → Goes (ours (roomFor s) (tableOf s) cs) xs u
+called S a none = (S, refl, refl)
+called S a (got key r p m) =
+    let rest = called S (a .1) m in
+    (rest .0, ap₂ {C = List Answer} (λ x y. x ∷ y) (ap gotAnswer (get-done _ key r p S)) (rest .1), rest .2)
+called S a (wrote {cs = cs} key v after r p m) =
+    let n = set-stays key v S (a .0 .0) (a .0 .1) (p .1) in wrote-first cs S (p .1) n (called (n .sound) (a .1) m)
+called S a (reserved {cs = cs} k after r p m) =
+    let n = reserve-stays k S (p .1) in wrote-first cs S (p .1) n (called (n .sound) (a .1) m)
+
+-- ---- what agrees of the table agrees of the store
+module _ {u : Store} (U : Sound u) where
+  listed-lists : {key : Words} {l : List Entry} → Listed u key l → Lists (nextOf (tableOf u)) key l
+  listed-lists {key = key} (end p) = last (next-is U key Last p)
+  listed-lists {key = key} (more k v p m) = then k v (next-is U key (Found k v) p) (listed-lists m)
+
+  lists-listed : {key : Words} {l : List Entry} → Lists (nextOf (tableOf u)) key l → Listed u key l
+  lists-listed {key = key} (last p) = end (is-next U key Last p)
+  lists-listed {key = key} (then k v p m) = more k v (is-next U key (Found k v) p) (lists-listed m)
+
+  agrees : {kinds : Kinds} {o : Original} → Agree kinds (tableOf u) o → Agrees kinds u o
+  agrees g =
+      record {
+        sound = U;
+        gets = λ key a n p. get-done _ key a p U ∙ ap Value (g .gets key n);
+        walks = λ l m p q. g .walks l m (listed-lists p) q;
+        ends = (g .end .0, g .end .1, lists-listed (g .end .2), g .end .3);
+        lengths = λ a b c p. length-done _ a p U ∙ ap Length (g .lengths b c);
+      }
+
+comparable-passes : (kinds : Kinds) (cs : List Call) → Each (Comparable kinds) cs → Each ValuesPassed cs
+comparable-passes kinds [] a = tt
+comparable-passes kinds (get key ∷ cs) a = (tt, comparable-passes kinds cs (a .1))
+comparable-passes kinds (set key v ∷ cs) a = ((a .0 .1, a .0 .2), comparable-passes kinds cs (a .1))
+comparable-passes kinds (reserve n ∷ cs) a = (tt, comparable-passes kinds cs (a .1))
+
+pub demand2 : (before after : Slices) (r : Record) → FreshMade before after (Stored r) → (kinds : Kinds) (cs : List Call) → Each (Comparable kinds) cs
+    → (xs : List Answer) (u : Store) → Called (store after r) cs xs u → Roomy xs → (ys : List Answer) (o : Original) → Runs new cs ys o → (xs ≡ ys) × Agrees kinds u o
+demand2 before after r f kinds cs a xs u m y ys o runs =
+    let s : Store = store after r in
+    let S : Sound s = fresh-made-sound before after r f in
+    let t : tableOf s ≡ fresh = ap tableOf (f .1) ∙ table-written (lengthsOf before) fresh in
+    let run : ours (roomFor s) (tableOf s) cs ≡ ours (roomFor s) fresh cs = ap (λ (x : Table). ours (roomFor s) x cs) t in
+    let g = called S (comparable-passes kinds cs a) m in
+    let said : xs ≡ (ours (roomFor s) fresh cs) .said = g .1 ∙ ap (λ (x : Run). x .said) run in
+    let finally : tableOf u ≡ (ours (roomFor s) fresh cs) .finally = g .2 ∙ ap (λ (x : Run). x .finally) run in
+    let all = model-agrees (roomFor s) (sound-formed s S .fair) kinds cs a (subst Roomy said y) ys o runs in
+    (said ∙ all .0, agrees (g .0) (subst (λ (x : Table). Agree kinds x o) (sym finally) (all .1)))

@@ -1,0 +1,28 @@
+-- Demand 1 with Values: after a set that is done, a get shows the Value that was stored. Assumes nothing.
+use mathlib.Core.Path.{_≡_, refl, ap, _∙_}
+use Rattle.value.specs.declared.Value.{Value}
+use Rattle.value.specs.declared.Words.{Words}
+use Rattle.value.specs.declared.Decoded.{Decoded}
+use Rattle.value.specs.Encoding.{encoded, orNil, Typed, settled}
+use Rattle.value.proofs.RoundTrip.{stored-read, encoded-decodes}
+use Rattle.key.specs.declared.CanonicalKey.the-variants.{Key}
+use Rattle.key.specs.Canonical.{canonicalKey}
+use Rattle.store.specs.declared.Record.{Record}
+use Rattle.store.specs.Store.{Slices, Store, store}
+use Rattle.store.specs.Written.{Sound}
+use Rattle.writes.specs.declared.SetWords.the-variants.{Done as SetDoes}
+use Rattle.table.specs.declared.Got.{Got}
+use Rattle.table.specs.declared.Got.the-variants.{Value as Is}
+use Rattle.table.specs.declared.Stored.the-variants.{Done}
+use Rattle.table.specs.Values.{gotOf, GetValue, SetValue}
+use Rattle.table.proofs.Readings.{set-words}
+use Rattle.demands.proofs.Demand1.{last-shown}
+
+-- at every key that is the one set, such as 1 and 1.0
+pub value-shown : (s : Store) (key v p : Value) (after : Slices) (x : Record) (k : Words) → Sound s → Typed key → Typed v → canonicalKey (encoded key) ≡ Key k
+    → SetValue s key v after (Done p x) → (j : Value) → canonicalKey (encoded j) ≡ Key k → (r : Got) → GetValue (store after x) j r → r ≡ Is (settled v)
+value-shown s key v p after x k S tk tv c d j e r g =
+    let w = set-words s key v p after x d in
+    g .2
+    ∙ ap gotOf (last-shown s (encoded key) (encoded v) after (SetDoes (w .0) x) S (w .1) k (encoded-decodes key tk) (encoded-decodes v tv) c refl (encoded j) e (g .0) (g .1))
+    ∙ ap (λ (b : Decoded). Is (orNil b)) (stored-read v tv)

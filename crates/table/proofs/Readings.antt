@@ -1,0 +1,90 @@
+-- What the promises of the calls with Values come to. On a sound store, and where the shape is wrong, they leave no answer and no word open;
+-- on a sound store the Values that are answered are those that the table's words stand for; and a set keeps the store sound, with nothing
+-- asked of a host. Assumes nothing.
+use mathlib.Core.Path.{_≡_, sym, ap, subst, _∙_}
+use mathlib.Core.Logic.{_⊎_}
+use Rattle.value.specs.declared.Value.{Value}
+use Rattle.value.specs.declared.Words.{Words}
+use Rattle.value.specs.declared.Decoded.the-variants.{Value as Good}
+use Rattle.value.specs.Encoding.{encoded, decoded, valueOf, Typed}
+use Rattle.value.proofs.Cases.{never}
+use Rattle.value.proofs.RoundTrip.{encoded-decodes, value-read}
+use Rattle.model.specs.Entries.{found}
+use Rattle.model.specs.Table.{getOf, nextOf as tableNext}
+use Rattle.model.specs.Calls.{Outcome}
+use Rattle.model.proofs.Kept.{get-decodes, previous-decodes, next-decodes}
+use Rattle.store.specs.declared.Record.{Record}
+use Rattle.store.specs.Store.{Slices, Store, store}
+use Rattle.store.specs.Shape.{Shaped}
+use Rattle.store.specs.Written.{Sound, tableOf}
+use Rattle.store.proofs.Sound.{sound-formed}
+use Rattle.reads.specs.declared.NextWords.{NextWords}
+use Rattle.reads.specs.declared.NextWords.the-variants.{Found as FoundWords, Last, NotFound, No as NextNo}
+use Rattle.reads.specs.Reads.{NextAnswers}
+use Rattle.reads.proofs.Unique as reads
+use Rattle.writes.specs.declared.SetWords.{SetWords}
+use Rattle.writes.specs.declared.SetWords.the-variants.{Done as SetDoes, No as SetNo}
+use Rattle.writes.specs.Writes.{Left, roomFor, setOutcome, SetDone}
+use Rattle.writes.proofs.Unique as writes
+use Rattle.table.specs.declared.Got.{Got}
+use Rattle.table.specs.declared.Got.the-variants.{Value as Is}
+use Rattle.table.specs.declared.Stored.{Stored}
+use Rattle.table.specs.declared.Stored.the-variants.{Done}
+use Rattle.table.specs.declared.NextValue.{NextValue}
+use Rattle.table.specs.declared.NextValue.the-variants.{Found}
+use Rattle.table.specs.Values.{gotOf, storedOf, nextOf, GetValue, SetValue, NextOfValue}
+
+-- ---- one answer
+module _ (s : Store) (w : Sound s ⊎ (Shaped s → ⊥)) (key : Value) where
+  pub get-unique : (r r′ : Got) → GetValue s key r → GetValue s key r′ → r ≡ r′
+  get-unique r r′ p q = p .2 ∙ ap gotOf (reads.get-unique s (encoded key) (p .0) (q .0) w (p .1) (q .1)) ∙ sym (q .2)
+
+  pub next-unique : (r r′ : NextValue) → NextOfValue s key r → NextOfValue s key r′ → r ≡ r′
+  next-unique r r′ p q = p .2 ∙ ap nextOf (reads.next-unique s (encoded key) (p .0) (q .0) w (p .1) (q .1)) ∙ sym (q .2)
+
+  pub set-unique : (v : Value) (a b : Slices) (r t : Stored) → SetValue s key v a r → SetValue s key v b t → (a ≡ b) × (r ≡ t)
+  set-unique v a b r t p q =
+      let u = writes.set-unique s (encoded key) (encoded v) a b (p .0) (q .0) w (p .1) (q .1) in
+      (u .0, p .2 ∙ ap storedOf (u .1) ∙ sym (q .2))
+
+-- ---- true readings of a sound store
+module _ {s : Store} (S : Sound s) (key : Value) where
+  pub get-read : (r : Got) → GetValue s key r → (v : Value) × (r ≡ Is v) × (decoded (getOf (tableOf s) (encoded key)) ≡ Good v)
+  get-read r p =
+      let w : Words = getOf (tableOf s) (encoded key) in
+      (valueOf w, p .2 ∙ ap gotOf (reads.get-done s (encoded key) (p .0) (p .1) S), value-read w (get-decodes (roomFor s) (tableOf s) (encoded key) (sound-formed s S)))
+
+  pub next-read : (k v : Value) → NextOfValue s key (Found k v)
+      → (a : Words) × (b : Words) × (tableNext (tableOf s) (encoded key) ≡ found a b) × (decoded a ≡ Good k) × (decoded b ≡ Good v)
+  next-read k v p = go (p .0) (p .1) (p .2)
+    where
+      go : (w : NextWords) → NextAnswers s (encoded key) w → Found k v ≡ nextOf w
+          → (a : Words) × (b : Words) × (tableNext (tableOf s) (encoded key) ≡ found a b) × (decoded a ≡ Good k) × (decoded b ≡ Good v)
+      go (FoundWords a b) p e =
+          let d = next-decodes (roomFor s) (tableOf s) (encoded key) a b (sound-formed s S) (p .1 S) in
+          let ka : valueOf a ≡ k = cc in
+          let vb : valueOf b ≡ v = cc in
+          (a, b, p .1 S, value-read a (d .0) ∙ ap Good ka, value-read b (d .1) ∙ ap Good vb)
+      go Last p e = never (cc)
+      go NotFound p e = never (cc)
+      go (NextNo n) p e = never (cc)
+
+-- ---- a set that was done
+module _ (s : Store) (key v p : Value) (after : Slices) (x : Record) (d : SetValue s key v after (Done p x)) where
+  -- on words
+  pub set-words : (q : Words) × SetDone s (encoded key) (encoded v) after (SetDoes q x) × (p ≡ valueOf q)
+  set-words = go (d .0) (d .1) (d .2)
+    where
+      go : (w : SetWords) → SetDone s (encoded key) (encoded v) after w → Done p x ≡ storedOf w
+          → (q : Words) × SetDone s (encoded key) (encoded v) after (SetDoes q x) × (p ≡ valueOf q)
+      go (SetDoes q y) a e = let h : y ≡ x = cc in (q, subst (λ (z : Record). SetDone s (encoded key) (encoded v) after (SetDoes q z)) h a, cc)
+      go (SetNo n) a e = never (cc)
+
+  pub set-read : Sound s → decoded (setOutcome s (encoded key) (encoded v) .previous) ≡ Good p
+  set-read S =
+      let o : Outcome = setOutcome s (encoded key) (encoded v) in
+      let e : set-words .0 ≡ o .previous = ap (λ (l : Left). l .previous) (set-words .1 .1 .does .sound S) in
+      value-read (o .previous) (previous-decodes (roomFor s) (tableOf s) (encoded key) (encoded v) (sound-formed s S)) ∙ ap Good (sym (set-words .2 ∙ ap valueOf e))
+
+  pub set-sound : Sound s → Typed key → Typed v → Sound (store after x)
+  set-sound S tk tv = set-words .1 .1 .kept S (encoded-decodes key tk, encoded-decodes v tv)
