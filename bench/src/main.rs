@@ -1,205 +1,154 @@
-//! Nine workloads of 30,000 keys, ours and the original's in one run: median and least ns an operation.
-//! Ours is the proved library behind its C interface; the original is its raw.rs, as the crate `oracle` builds it.
-use oracle::{
-    gc_arena,
-    gc_arena::Gc,
-    table::raw::{NextValue, RawTable},
-    String, Value,
-};
+//! Workloads on both sides in one run: median and least ns an operation, as rows of bench/README.md's table. Each workload is written once, for either side.
+mod sides;
+
+use sides::{Original, Ours, Room, Side};
 use std::{hint::black_box, time::Instant};
 
 const KEYS: u64 = 30_000;
-const VALUES: usize = 65_536;
-const ENTRIES: usize = 32_768;
-const INDEX: usize = 65_536;
+const LARGEST: Room = Room { values: 65_536, entries: 32_768, index: 65_536 };
+// Entries for which the least index and the largest are far apart, and keys that fit.
+const FEW: u64 = 4_000;
+const SMALL: Room = Room { values: 0, entries: 4_096, index: 8_192 };
+const SMALL_IN_LARGEST: Room = Room { index: 65_536, ..SMALL };
+// The original's map is full then, and half of them fit here with MORE.
+const CLEARED: u64 = 28_672;
+const MORE: usize = 5_000;
 
-extern "C" {
-    fn amzighrod_fresh(array: *mut u64, array_len: usize, entries: *mut u64, entries_len: usize, index: *mut u16, index_len: usize, size: *mut usize, allowance: *mut usize, count: *mut usize) -> u8;
-    fn amzighrod_check(array: *const u64, array_len: usize, entries: *const u64, entries_len: usize, index: *const u16, index_len: usize, size: usize, allowance: usize, count: usize) -> bool;
-    fn amzighrod_get(array: *const u64, array_len: usize, entries: *const u64, entries_len: usize, index: *const u16, index_len: usize, size: usize, allowance: usize, count: usize, key_kind: u64, key_payload: u64, kind: *mut u64, payload: *mut u64) -> u8;
-    fn amzighrod_set(array: *mut u64, array_len: usize, entries: *mut u64, entries_len: usize, index: *mut u16, index_len: usize, size: *mut usize, allowance: *mut usize, count: *mut usize, key_kind: u64, key_payload: u64, value_kind: u64, value_payload: u64, kind: *mut u64, payload: *mut u64) -> u8;
-    fn amzighrod_next(array: *const u64, array_len: usize, entries: *const u64, entries_len: usize, index: *const u16, index_len: usize, size: usize, allowance: usize, count: usize, key_kind: *mut u64, key_payload: *mut u64, kind: *mut u64, payload: *mut u64) -> u8;
-}
+// One, two, three; the addresses of objects of 48 bytes in a row; spread over all 64 bits.
+const HANDLES: [(&str, fn(u64) -> u64); 3] = [("1, 2, 3", |i| i), ("by 48", |i| 0x5000_0000_0000 + 48 * i), ("spread", |i| splitmix64(i) | 1)];
 
-#[derive(Clone, Copy)]
-struct Words {
-    kind: u64,
-    payload: u64,
-}
-
-const NIL: Words = Words { kind: 0, payload: 0 };
-const TRUE: Words = Words { kind: 1, payload: 1 };
-
-fn integer(n: u64) -> Words {
-    Words { kind: 2, payload: n }
-}
-
-// a half more than a whole number: a key that no array takes, and no object that the original's collector would follow
-fn half(n: u64) -> f64 {
-    n as f64 + 0.5
-}
-
-fn number(n: u64) -> Words {
-    Words { kind: 3, payload: half(n).to_bits() }
-}
-
-fn string(h: u64) -> Words {
-    Words { kind: 4, payload: h }
-}
-
-struct Table {
-    array: Vec<u64>,
-    entries: Vec<u64>,
-    index: Vec<u16>,
-    size: usize,
-    allowance: usize,
-    count: usize,
-}
-
-impl Table {
-    fn new() -> Table {
-        let mut t = Table { array: vec![1; 2 * VALUES], entries: vec![1; 4 * ENTRIES], index: vec![1; INDEX], size: 0, allowance: 0, count: 0 };
-        let n = unsafe { amzighrod_fresh(t.array.as_mut_ptr(), t.array.len(), t.entries.as_mut_ptr(), t.entries.len(), t.index.as_mut_ptr(), t.index.len(), &mut t.size, &mut t.allowance, &mut t.count) };
-        assert_eq!(n, 0);
-        t
-    }
-
-    fn set(&mut self, key: Words, value: Words) -> Words {
-        let mut previous = NIL;
-        let n = unsafe {
-            amzighrod_set(self.array.as_mut_ptr(), self.array.len(), self.entries.as_mut_ptr(), self.entries.len(), self.index.as_mut_ptr(), self.index.len(), &mut self.size, &mut self.allowance, &mut self.count, key.kind, key.payload, value.kind, value.payload, &mut previous.kind, &mut previous.payload)
-        };
-        assert_eq!(n, 0);
-        previous
-    }
-
-    fn get(&self, key: Words) -> Words {
-        let mut value = NIL;
-        let n = unsafe { amzighrod_get(self.array.as_ptr(), self.array.len(), self.entries.as_ptr(), self.entries.len(), self.index.as_ptr(), self.index.len(), self.size, self.allowance, self.count, key.kind, key.payload, &mut value.kind, &mut value.payload) };
-        assert_eq!(n, 0);
-        value
-    }
-
-    // the number of pairs of a whole walk
-    fn walk(&self) -> u64 {
-        let (mut key, mut value, mut pairs) = (NIL, NIL, 0);
-        loop {
-            let n = unsafe { amzighrod_next(self.array.as_ptr(), self.array.len(), self.entries.as_ptr(), self.entries.len(), self.index.as_ptr(), self.index.len(), self.size, self.allowance, self.count, &mut key.kind, &mut key.payload, &mut value.kind, &mut value.payload) };
-            if n != 0 {
-                assert_eq!(n, 1);
-                return pairs;
-            }
-            black_box(value.payload);
-            pairs += 1;
-        }
-    }
-
-    fn is_sound(&self) -> bool {
-        unsafe { amzighrod_check(self.array.as_ptr(), self.array.len(), self.entries.as_ptr(), self.entries.len(), self.index.as_ptr(), self.index.len(), self.size, self.allowance, self.count) }
-    }
-}
-
-fn original_walk(t: &RawTable) -> u64 {
-    let (mut key, mut pairs) = (Value::Nil, 0);
-    while let NextValue::Found { key: k, value } = t.next(key) {
-        black_box(value);
-        pairs += 1;
-        key = k;
-    }
-    pairs
+fn splitmix64(i: u64) -> u64 {
+    let x = i.wrapping_mul(0x9E37_79B9_7F4A_7C15);
+    let x = (x ^ (x >> 30)).wrapping_mul(0xBF58_476D_1CE4_E5B9);
+    let x = (x ^ (x >> 27)).wrapping_mul(0x94D0_49BB_1331_11EB);
+    x ^ (x >> 31)
 }
 
 struct Line {
-    name: &'static str,
-    ours: Vec<u64>,
-    original: Vec<u64>,
+    name: String,
+    operations: u64,
+    nanoseconds: Vec<u64>,
 }
 
-fn timed<R>(to: &mut Vec<u64>, f: impl FnOnce() -> R) -> R {
-    let start = Instant::now();
-    let r = f();
-    to.push(start.elapsed().as_nanos() as u64);
-    r
-}
+#[derive(Default)]
+struct Lines(Vec<Line>);
 
-fn shuffled(n: u64) -> Vec<u64> {
-    let mut v: Vec<u64> = (1..=n).collect();
-    let mut x = 88_172_645_463_325_252u64;
-    for i in (1..v.len()).rev() {
-        x ^= x << 13;
-        x ^= x >> 7;
-        x ^= x << 17;
-        v.swap(i, (x % (i as u64 + 1)) as usize);
+impl Lines {
+    fn timed<R>(&mut self, name: &str, operations: u64, work: impl FnOnce() -> R) -> R {
+        let start = Instant::now();
+        let answer = work();
+        let taken = start.elapsed().as_nanos() as u64;
+        match self.0.iter_mut().find(|line| line.name == name) {
+            Some(line) => line.nanoseconds.push(taken),
+            None => self.0.push(Line { name: name.into(), operations, nanoseconds: vec![taken] }),
+        }
+        answer
     }
-    v
+
+    fn set_all<T: Side>(&mut self, name: &str, table: &mut T, keys: &[T::Key]) {
+        self.timed(name, keys.len() as u64, || keys.iter().for_each(|&key| table.set(key)));
+        assert!(table.is_sound());
+    }
+
+    fn count<T: Side>(&mut self, name: &str, table: &T, keys: &[T::Key]) -> usize {
+        self.timed(name, keys.len() as u64, || keys.iter().filter(|&&key| table.has(key)).count())
+    }
 }
 
-const NAMES: [&str; 9] = [
-    "Integers set, rising", "Integers set, falling", "Strings set", "Strings found", "Strings found, shuffled", "Strings not found",
-    "walk, Integers", "walk, Strings", "churn: set one, clear one",
-];
+impl Line {
+    fn middle_and_least(&self) -> (f64, f64) {
+        let mut sorted = self.nanoseconds.clone();
+        sorted.sort();
+        let each = |nanoseconds: u64| nanoseconds as f64 / self.operations as f64;
+        (each(sorted[sorted.len() / 2]), each(sorted[0]))
+    }
+}
 
-fn run_ours(lines: &mut [Line], order: &[u64]) {
-    let mut t = Table::new();
-    timed(&mut lines[0].ours, || for i in 1..=KEYS { black_box(t.set(integer(i), TRUE).kind); });
-    assert_eq!(timed(&mut lines[6].ours, || t.walk()), KEYS);
-    assert!(t.is_sound());
-    let mut t = Table::new();
-    timed(&mut lines[1].ours, || for i in (1..=KEYS).rev() { black_box(t.set(integer(i), TRUE).kind); });
-    assert!(t.is_sound());
-    let mut t = Table::new();
-    timed(&mut lines[2].ours, || for i in 1..=KEYS { black_box(t.set(string(i), TRUE).kind); });
-    assert_eq!(timed(&mut lines[3].ours, || (1..=KEYS).filter(|&i| t.get(string(i)).kind != 0).count()), KEYS as usize);
-    assert_eq!(timed(&mut lines[4].ours, || order.iter().filter(|&&i| t.get(string(i)).kind != 0).count()), KEYS as usize);
-    assert_eq!(timed(&mut lines[5].ours, || (1..=KEYS).filter(|&i| t.get(string(KEYS + i)).kind != 0).count()), 0);
-    assert_eq!(timed(&mut lines[7].ours, || t.walk()), KEYS);
-    assert!(t.is_sound());
-    let mut t = Table::new();
-    timed(&mut lines[8].ours, || for i in 1..=KEYS { black_box(t.set(number(i), TRUE).kind); black_box(t.set(number(i), NIL).kind); });
+fn shuffled<K: Copy>(keys: &[K]) -> Vec<K> {
+    let mut keys = keys.to_vec();
+    for i in (1..keys.len()).rev() {
+        keys.swap(i, (splitmix64(i as u64) % (i as u64 + 1)) as usize);
+    }
+    keys
+}
+
+fn integers<T: Side>(lines: &mut Lines, fresh: impl Fn(Room) -> T) {
+    let mut keys: Vec<T::Key> = (1..=KEYS).map(T::integer).collect();
+    let mut t = fresh(LARGEST);
+    lines.set_all("Integers set, rising", &mut t, &keys);
+    lines.set_all("Integers overwritten", &mut t, &keys);
+    assert_eq!(lines.count("Integers found", &t, &keys), keys.len());
+    assert_eq!(lines.timed("walk, Integers", KEYS, || t.walk()), KEYS);
+    assert_eq!(lines.timed("length", KEYS, || (0..KEYS).map(|_| black_box(&t).length()).max()), Some(KEYS));
+    keys.reverse();
+    lines.set_all("Integers set, falling", &mut fresh(LARGEST), &keys);
+}
+
+fn strings<T: Side>(lines: &mut Lines, fresh: impl Fn(Room) -> T) {
+    for (sort, handle) in HANDLES {
+        let keys: Vec<T::Key> = (1..=KEYS).map(|i| T::string(handle(i))).collect();
+        let others: Vec<T::Key> = (KEYS + 1..=2 * KEYS).map(|i| T::string(handle(i))).collect();
+        let mut t = fresh(LARGEST);
+        lines.set_all(&format!("Strings set, {sort}"), &mut t, &keys);
+        lines.set_all(&format!("Strings overwritten, {sort}"), &mut t, &keys);
+        assert_eq!(lines.count(&format!("Strings found, {sort}"), &t, &keys), keys.len());
+        assert_eq!(lines.count(&format!("Strings found, shuffled, {sort}"), &t, &shuffled(&keys)), keys.len());
+        assert_eq!(lines.count(&format!("Strings not found, {sort}"), &t, &others), 0);
+        assert_eq!(lines.timed(&format!("walk, Strings, {sort}"), KEYS, || t.walk()), KEYS);
+    }
+}
+
+// What the index's length does to a get and a set: ours has it lent, the original its own.
+fn index_lengths<T: Side>(lines: &mut Lines, fresh: impl Fn(Room) -> T) {
+    let keys: Vec<T::Key> = (1..=FEW).map(|i| T::string(splitmix64(i) | 1)).collect();
+    for room in [SMALL, SMALL_IN_LARGEST] {
+        let mut t = fresh(room);
+        lines.set_all(&format!("{FEW} Strings set, index of {}", room.index), &mut t, &keys);
+        assert_eq!(lines.count(&format!("{FEW} Strings found, shuffled, index of {}", room.index), &t, &shuffled(&keys)), keys.len());
+    }
+}
+
+// A Number: a key that no array takes, and no object whose dead key would make the original panic.
+fn churn<T: Side>(lines: &mut Lines, fresh: impl Fn(Room) -> T) {
+    let keys: Vec<T::Key> = (1..=KEYS).map(|i| T::number(i as f64 + 0.5)).collect();
+    let mut t = fresh(LARGEST);
+    let set_and_clear = |&key: &T::Key| {
+        t.set(key);
+        t.clear(key);
+    };
+    lines.timed("churn: set one, clear one", KEYS, || keys.iter().for_each(set_and_clear));
     assert!(t.is_sound());
 }
 
-fn run_original(lines: &mut [Line], order: &[u64]) {
-    gc_arena::mutate(|mc| {
-        let v = Value::Boolean(true);
-        // a handle is an address that is never followed
-        let s = |i: u64| Value::String(String(Gc::from_address(i as usize)));
-        let mut t = RawTable::new(mc);
-        timed(&mut lines[0].original, || for i in 1..=KEYS { black_box(t.set(Value::Integer(i as i64), v).unwrap()); });
-        assert_eq!(timed(&mut lines[6].original, || original_walk(&t)), KEYS);
-        let mut t = RawTable::new(mc);
-        timed(&mut lines[1].original, || for i in (1..=KEYS).rev() { black_box(t.set(Value::Integer(i as i64), v).unwrap()); });
-        let mut t = RawTable::new(mc);
-        timed(&mut lines[2].original, || for i in 1..=KEYS { black_box(t.set(s(i), v).unwrap()); });
-        assert_eq!(timed(&mut lines[3].original, || (1..=KEYS).filter(|&i| !t.get(s(i)).is_nil()).count()), KEYS as usize);
-        assert_eq!(timed(&mut lines[4].original, || order.iter().filter(|&&i| !t.get(s(i)).is_nil()).count()), KEYS as usize);
-        assert_eq!(timed(&mut lines[5].original, || (1..=KEYS).filter(|&i| !t.get(s(KEYS + i)).is_nil()).count()), 0);
-        assert_eq!(timed(&mut lines[7].original, || original_walk(&t)), KEYS);
-        let mut t = RawTable::new(mc);
-        timed(&mut lines[8].original, || for i in 1..=KEYS {
-            black_box(t.set(Value::Number(half(i)), v).unwrap());
-            black_box(t.set(Value::Number(half(i)), Value::Nil).unwrap());
-        });
-    })
+fn reserves<T: Side>(lines: &mut Lines, fresh: impl Fn(Room) -> T) {
+    let keys: Vec<T::Key> = (1..=CLEARED).map(T::string).collect();
+    let mut t = fresh(LARGEST);
+    keys.iter().for_each(|&key| t.set(key));
+    lines.timed("reserve, nothing to do", KEYS, || (0..KEYS).for_each(|_| t.reserve(black_box(0))));
+    keys.iter().step_by(2).for_each(|&key| t.clear(key));
+    lines.timed("reserve, half cleared, an entry", CLEARED, || t.reserve(MORE));
+    assert!(t.is_sound());
+    assert_eq!(t.walk(), CLEARED / 2);
 }
 
-fn middle_and_least(v: &mut Vec<u64>) -> (f64, f64) {
-    v.sort();
-    (v[v.len() / 2] as f64 / KEYS as f64, v[0] as f64 / KEYS as f64)
+fn run<T: Side>(lines: &mut Lines, fresh: impl Fn(Room) -> T + Copy) {
+    integers(lines, fresh);
+    strings(lines, fresh);
+    index_lengths(lines, fresh);
+    churn(lines, fresh);
+    reserves(lines, fresh);
 }
 
 fn main() {
     let runs: usize = std::env::args().nth(1).map_or(51, |x| x.parse().expect("the number of runs"));
-    let order = shuffled(KEYS);
-    let mut lines: Vec<Line> = NAMES.iter().map(|&name| Line { name, ours: vec![], original: vec![] }).collect();
+    let (mut ours, mut original) = (Lines::default(), Lines::default());
     for _ in 0..runs {
-        run_ours(&mut lines, &order);
-        run_original(&mut lines, &order);
+        run(&mut ours, Ours::new);
+        oracle::mutate(|mc| run(&mut original, |_| Original::new(mc)));
     }
-    println!("{KEYS} keys, {runs} runs; ns an operation: median (least)");
-    println!("{:28} {:>16} {:>16} {:>7}", "", "ours", "the original", "ratio");
-    for l in &mut lines {
-        let ((a, b), (c, d)) = (middle_and_least(&mut l.ours), middle_and_least(&mut l.original));
-        println!("{:28} {:>8.1} ({:>5.1}) {:>8.1} ({:>5.1}) {:>7.2}", l.name, a, b, c, d, a / c);
+    println!("{runs} runs; ns an operation: median (least)\n\n| | ours | the original | ratio |\n|---|---|---|---|");
+    for (line, other) in ours.0.iter().zip(&original.0) {
+        let ((a, b), (c, d)) = (line.middle_and_least(), other.middle_and_least());
+        println!("| {} | {a:.1} ({b:.1}) | {c:.1} ({d:.1}) | {:.2} |", line.name, a / c);
     }
 }

@@ -6,11 +6,14 @@ from collections import Counter
 from pathlib import Path
 
 sys.dont_write_bytecode = True  # nothing but the two files is to be left behind
+TESTS = Path(__file__).resolve().parents[1]
+sys.path.append(str(TESTS))
 
-from rules import right_lengths, sound
-from stores import Draw, all_stores
+from reading.draw import Draw
+from reading.rules import right_lengths, sound
+from stores import all_stores
 
-CRATE = Path(__file__).resolve().parents[2] / "crates/checks"
+CRATE = TESTS.parent / "crates/checks"
 CHECK, FRESH = 1, 2
 # The program has room for so many words of each slice of a fresh store.
 ROOM = 131080

@@ -1,36 +1,10 @@
 """Small stores: sound ones of every kind of key and value, and copies of them with something changed. Drawn from a fixed seed."""
 
-import struct
 from collections import Counter
 from copy import deepcopy
-from random import Random
 
-from rules import BOOLEAN, INTEGER, LARGEST, NIL, NUMBER, WORD, Store, home, inserted, keys
-
-
-class NoChoice(Exception):
-    """There is nothing to draw from: the change does not apply to this store."""
-
-
-class Draw:
-    def __init__(self, seed):
-        self.random = Random(seed)
-
-    def word(self):
-        return self.random.getrandbits(64)
-
-    def below(self, n):
-        return self.of(range(n))
-
-    def of(self, choices):
-        if not choices:
-            raise NoChoice
-        return choices[self.word() % len(choices)]
-
-
-def bits(number):
-    return struct.unpack("<Q", struct.pack("<d", number))[0]
-
+from reading.draw import NoChoice
+from reading.rules import BOOLEAN, INTEGER, LARGEST, NIL, NUMBER, WORD, Store, bits, home, inserted, keys, number
 
 # Numbers that are their own keys, Numbers that become Integers as keys, and NaNs.
 PROPER = [bits(x) for x in (0.5, -0.5, 0.1, 1e300, 2.0**64, -(2.0**64), 5e-324, float("inf"), float("-inf"))]
@@ -42,7 +16,7 @@ FIXED_KEYS = {
     "Nil": (NIL, 0),
     "quiet NaN": (NUMBER, NANS[0]),
     "signalling NaN": (NUMBER, NANS[2]),
-    **{f"Number {x}": (NUMBER, bits(x)) for x in (1.0, -0.0, 2.0**53, 2.0**63, -(2.0**63), 0.5, float("inf"))},
+    **{f"Number {x}": number(x) for x in (1.0, -0.0, 2.0**53, 2.0**63, -(2.0**63), 0.5, float("inf"))},
     "Integer 0": (INTEGER, 0),
     "Integer -1": (INTEGER, WORD - 1),
 }

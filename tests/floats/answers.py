@@ -1,12 +1,17 @@
-"""Prints what crates/floats/stdout must hold, by exact rational arithmetic on the patterns of crates/floats/src/main.rt."""
+"""Prints what crates/floats/stdout must hold, by the reading of 01 on the patterns of crates/floats/src/main.rt."""
 
 import re
-import struct
-from fractions import Fraction
+import sys
 from pathlib import Path
 
-SOURCE = Path(__file__).resolve().parents[2] / "crates/floats/src/main.rt"
-SMALLEST, LARGEST = -(2**63), 2**63 - 1
+sys.dont_write_bytecode = True
+TESTS = Path(__file__).resolve().parents[1]
+sys.path.append(str(TESTS))
+
+from reading.rules import INTEGER, NUMBER, array_index, canonical
+
+SOURCE = TESTS.parent / "crates/floats/src/main.rt"
+NAMES = {INTEGER: "Integer", NUMBER: "Number"}
 
 
 def patterns(source):
@@ -18,29 +23,13 @@ def patterns(source):
     return words
 
 
-def whole(number):
-    """The integer that a Number, no NaN, becomes as a key, or None where it stays a Number."""
-    if number in (float("inf"), float("-inf")):
-        return None
-    exact = Fraction(number)
-    if exact == 2**63:
-        return LARGEST
-    if exact.denominator == 1 and SMALLEST <= exact <= LARGEST:
-        return exact.numerator
-    return None
-
-
 def line(bits):
-    number = struct.unpack(">d", struct.pack(">Q", bits))[0]
-    if number != number:
+    key = canonical((NUMBER, bits))
+    if key is None:
         return f"{bits:016x} refused 2"
-    n = whole(number)
-    if n is None:
-        return f"{bits:016x} Number {bits:016x} index none"
-    key = f"{bits:016x} Integer {n % 2**64:016x}"
-    if n <= 0:
-        return f"{key} index none"
-    return f"{key} index {n - 1:016x} class {(n - 1).bit_length()}"
+    shown = f"{bits:016x} {NAMES[key[0]]} {key[1]:016x} index"
+    index = array_index(key)
+    return f"{shown} none" if index is None else f"{shown} {index:016x} class {index.bit_length()}"
 
 
 for bits in patterns(SOURCE.read_text()):

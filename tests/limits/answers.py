@@ -6,11 +6,11 @@ from pathlib import Path
 
 sys.dont_write_bytecode = True  # nothing but the two files is to be left behind
 TESTS = Path(__file__).resolve().parents[1]
-sys.path.append(str(TESTS / "checks"))  # for rules.py
+sys.path.append(str(TESTS))
 
-from rules import INTEGER, Store, right_lengths, right_shape, sound
+from reading.rules import INTEGER, NOTHING, Store, right_lengths, right_shape, sound
+from reading.table import DONE, LAST, WRONG_SHAPE, Table
 from sequences import SEQUENCES
-from table import DONE, LAST, NOTHING, WRONG_SHAPE, Table
 
 CRATE = TESTS.parent / "crates/limits"
 FIELDS = 5

@@ -1,30 +1,14 @@
 """Sequences of calls, each on a fresh store: 01's 'Sequences to try', refusals, the limits of lent room, and others where the rules turn."""
 
-import struct
+from reading.rules import BOOLEAN, INTEGER, LARGEST, NOTHING, NUMBER, SMALLEST, STRING, WORD, integer, number, string
 
-from rules import INTEGER, LARGEST, NIL, NUMBER, WORD
-
-STRING = 4
-NOTHING, YES = (NIL, 0), (1, 1)
-SMALLEST = LARGEST + 1  # its word
+YES = (BOOLEAN, 1)
 NAN = (NUMBER, 0x7FF8000000000000)
 OTHER_NAN = (NUMBER, 0xFFF00000DEADBEEF)
 ARRAY_LIMIT, ENTRY_LIMIT = 65536, 32768
 MOST = 100000  # more steps than any walk here takes
 
 LENGTH, CHECK, WALK = ("length",), ("check",), ("walk", MOST)
-
-
-def integer(n):
-    return INTEGER, n
-
-
-def string(handle):
-    return STRING, handle
-
-
-def number(x):
-    return NUMBER, struct.unpack("<Q", struct.pack("<d", x))[0]
 
 
 def sets(keys, value=YES):

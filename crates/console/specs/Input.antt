@@ -1,8 +1,9 @@
 -- The input: its room, its little-endian words, and a record of a store in them. Assumes nothing.
 use mathlib.Core.Path.{_≡_}
 use mathlib.Core.List.{List}
-use Prim.Native.Nat.{ℕ, _+_, _*_, _<_}
-use lib.ListN.{getD}
+use Prim.Native.Nat.{ℕ, _+_, _<_}
+use lib.ListN.{getD, take, drop}
+use Rattle.records.specs.Bytes.{number}
 use Rattle.store.specs.declared.Record.{Record}
 
 -- bytes of input, and words of a slice
@@ -12,15 +13,9 @@ byteRoom = 524288
 abbrev pub wordRoom : ℕ
 wordRoom = 131080
 
--- two, four and eight bytes, the lowest first
-abbrev pub pairAt : List ℕ → ℕ → ℕ
-pairAt bs i = getD bs i 0 + 256 * getD bs (i + 1) 0
-
-abbrev pub quadAt : List ℕ → ℕ → ℕ
-quadAt bs i = pairAt bs i + 65536 * pairAt bs (i + 2)
-
+-- eight bytes, the lowest first
 abbrev pub wordAt : List ℕ → ℕ → ℕ
-wordAt bs i = quadAt bs i + 4294967296 * quadAt bs (i + 4)
+wordAt bs i = number (take 8 (drop i bs))
 
 -- the first n words are these
 abbrev pub Holds : (ℕ → ℕ) → ℕ → List ℕ → Type 0

@@ -4,9 +4,9 @@ use libc::STDIN_FILENO;
 use libc::STDOUT_FILENO;
 use store::Record;
 ghost use mathlib.Core.Path.{_≡_};
-ghost use Prim.Native.Nat.{_+_, _*_, _/_, _<_, _≤_};
+ghost use Prim.Native.Nat.{_+_, _*_, _/_, _≤_};
 ghost use lib.ListN.{length};
-ghost use Rattle.console.specs.Input.{byteRoom, wordRoom, pairAt, quadAt, wordAt, Holds, sizesAt};
+ghost use Rattle.console.specs.Input.{byteRoom, wordRoom, wordAt, Holds, sizesAt};
 
 // Room for bytes of input; and for words of a slice, past the limits of lent room and past what the input can hold. The same numbers
 // stand in specs/Input.antt.
@@ -33,33 +33,6 @@ pub fn index_room() -> [Word; ROOM]
     [0; ROOM]
 }
 
-fn wide(byte: u8) -> u64
-    ensures { λ r. ⌜ (r ≡ byte) × (r < 256) ⌝ }
-{
-    byte as u64
-}
-
-fn pair_at(bytes: &[u8], at: usize) -> u64
-    requires { ⌜ at + 2 ≤ length (now bytes) ⌝ }
-    ensures { λ r. ⌜ (r ≡ pairAt (now (bytes .entry)) at) × (r < 65536) ⌝ }
-{
-    wide(bytes[at]) + 256 * wide(bytes[at + 1])
-}
-
-fn quad_at(bytes: &[u8], at: usize) -> u64
-    requires { ⌜ at + 4 ≤ length (now bytes) ⌝ }
-    ensures { λ r. ⌜ (r ≡ quadAt (now (bytes .entry)) at) × (r < 4294967296) ⌝ }
-{
-    pair_at(bytes, at) + 65536 * pair_at(bytes, at + 2)
-}
-
-fn word_at(bytes: &[u8], at: usize) -> u64
-    requires { ⌜ at + 8 ≤ length (now bytes) ⌝ }
-    ensures { λ r. ⌜ r ≡ wordAt (now (bytes .entry)) at ⌝ }
-{
-    quad_at(bytes, at) + 4294967296 * quad_at(bytes, at + 4)
-}
-
 // The whole words of the input, and how many there are.
 fn read_words(bytes: &[u8], words: &mut [u64]) -> usize
     requires { ⌜ length (now bytes) ≤ 8 * length (now words) ⌝ }
@@ -67,7 +40,7 @@ fn read_words(bytes: &[u8], words: &mut [u64]) -> usize
 {
     let n = bytes.len() / 8;
     for i in 0..n {
-        words[i] = word_at(bytes, 8 * i);
+        words[i] = records::number_at(bytes, 8 * i, 8);
     }
     n
 }

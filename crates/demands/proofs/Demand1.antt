@@ -26,7 +26,7 @@ use Rattle.reads.proofs.Unique.{get-done}
 use Rattle.writes.specs.declared.SetWords.{SetWords}
 use Rattle.writes.specs.declared.Reserved.{Reserved}
 use Rattle.writes.specs.Writes.{setLeft, reserveLeft, roomFor, setOutcome, SetDone, ReserveDone}
-use Rattle.demands.proofs.Answers.{refusal-is, previous-is, get-left, set-stays, reserve-stays}
+use Rattle.table.proofs.Answers.{refusal-is, previous-is, get-left, set-stays, reserve-stays}
 
 -- ---- set
 module _ (s : Store) (key v : Words) (after : Slices) (r : SetWords) (S : Sound s) (p : SetDone s key v after r) where

@@ -26,7 +26,8 @@ use Rattle.reads.specs.declared.Measured.the-variants.{Length}
 use Rattle.reads.proofs.Unique.{get-done, length-done}
 use Rattle.writes.specs.Writes.{Left, Promised, roomFor}
 use Rattle.demands.specs.Calls.{gotAnswer, leftAnswer, Called, none, got, wrote, reserved, ValuesPassed, Listed, end, more, Agrees}
-use Rattle.demands.proofs.Answers.{next-is, is-next, refusal-is, previous-is, table-is, Stays, set-stays, reserve-stays}
+use Rattle.table.specs.Stays.{Stays}
+use Rattle.table.proofs.Answers.{next-is, is-next, refusal-is, previous-is, table-is, set-stays, reserve-stays}
 
 -- ---- calls on a store are calls on its table
 -- what a run of the table says, and the table that it ends in, are said and held here

@@ -24,7 +24,8 @@ use Rattle.reads.specs.Reads.{Steps}
 use Rattle.reads.proofs.Unique.{get-done}
 use Rattle.writes.specs.Writes.{Left, Promised, roomFor}
 use Rattle.demands.specs.Walks.{Walking, begin, read, refusedSet, refusedReserve, clear, write, step, Has, Throughout, StoreWalked}
-use Rattle.demands.proofs.Answers.{is-get, next-is, refusal-is, table-is, Stays, refused-stays, set-stays}
+use Rattle.table.specs.Stays.{Stays}
+use Rattle.table.proofs.Answers.{is-get, next-is, refusal-is, table-is, refused-stays, set-stays}
 
 -- a walk on a store as a history of its table
 record Follows (s₀ s : Store) (allowed : List Words) (key : Words) (handed : List Entry) (Through : Words → Type 0) : Type 0 where

@@ -1,6 +1,6 @@
 -- The three demands on stores: what the promises say where a store is sound, and from it each demand.
-pub mod Answers
 pub mod Demand1
-pub mod Values
 pub mod Demand2
 pub mod Demand3
+pub mod Values
+pub mod Walkers

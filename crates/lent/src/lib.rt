@@ -20,7 +20,7 @@ pub fn value_at(words: &[u64], i: usize) -> Words
     }
 }
 
-fn decodable(w: Words) -> bool
+pub fn decodable(w: Words) -> bool
     ensures { λ r. ⌜ r ≡ decodes w ⌝ }
 {
     match value::decode(w) {

@@ -221,12 +221,15 @@ pairs-decode : (room : Room) (t : Table) → WellFormed room t → Each DecodesB
 unfolding pairs
 pairs-decode room t w = each-append DecodesBoth (arrayPairs 0 (t .array)) (t .entries) (array-decodes (t .array) 0 (w .arrayDecodes)) (w .entriesDecode)
 
-pub next-decodes : (room : Room) (t : Table) (key k v : Words) → WellFormed room t → nextOf t key ≡ found k v → Decodes k × Decodes v
+-- what holds of every pair holds of the one that `next` finds
+pub next-each : (P : Entry → Type 0) (t : Table) (key k v : Words) → Each P (pairs t) → nextOf t key ≡ found k v → P (entry k v)
 unfolding nextOf
-next-decodes room t key k v w h =
-    let d : Each DecodesBoth (pairs t) = pairs-decode room t w in
+next-each P t key k v a h =
     by-key key
-    (λ j e. each-from DecodesBoth k v (pairs t) j d (rw e at h))
+    (λ j e. each-from P k v (pairs t) j a (rw e at h))
     (λ n e. caseb (eqb n keyIsNil)
-    (λ b. each-first DecodesBoth k v (pairs t) d (rw (e, b) at h))
+    (λ b. each-first P k v (pairs t) a (rw (e, b) at h))
     (λ b. let q : notFound ≡ found k v = rw (e, b) at h in never (cc)))
+
+pub next-decodes : (room : Room) (t : Table) (key k v : Words) → WellFormed room t → nextOf t key ≡ found k v → Decodes k × Decodes v
+next-decodes room t key k v w = next-each DecodesBoth t key k v (pairs-decode room t w)

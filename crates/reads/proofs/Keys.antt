@@ -13,7 +13,7 @@ use Rattle.index.specs.declared.Found.{Found}
 use Rattle.index.specs.declared.Found.the-variants.{At, Absent, Full}
 use Rattle.index.specs.Index.{Right}
 use Rattle.index.specs.Search.{Stands, Answers}
-use Rattle.model.specs.Entries.{Entry, entry, distinct, has, NextValue, notFound, first, from}
+use Rattle.model.specs.Entries.{Entry, distinct, NextValue, notFound, first, from}
 use Rattle.model.specs.Table.{offset, within, placeOf, arrayPairs, pairs, lookup}
 use Rattle.model.specs.Growth.{tabulate}
 use Rattle.model.proofs.Entries.{length-tabulate, tabulate-at}

@@ -4,3 +4,4 @@ pub mod Unique
 pub mod Power
 pub mod Puts
 pub mod Keys
+pub mod Sized

@@ -1,14 +1,14 @@
 -- What the promises of the calls with Values come to. On a sound store, and where the shape is wrong, they leave no answer and no word open;
--- on a sound store the Values that are answered are those that the table's words stand for; and a set keeps the store sound, with nothing
--- asked of a host. Assumes nothing.
-use mathlib.Core.Path.{_≡_, sym, ap, subst, _∙_}
-use mathlib.Core.Logic.{_⊎_}
+-- on a sound store the Values that are answered are those that the table's words stand for, and what `next` hands out is stored as those
+-- words; and a set keeps the store sound, with nothing asked of a host. Assumes nothing.
+use mathlib.Core.Path.{_≡_, sym, ap, ap₂, subst, _∙_}
+use mathlib.Core.Logic.{_⊎_, inl}
 use Rattle.value.specs.declared.Value.{Value}
 use Rattle.value.specs.declared.Words.{Words}
 use Rattle.value.specs.declared.Decoded.the-variants.{Value as Good}
 use Rattle.value.specs.Encoding.{encoded, decoded, valueOf, Typed}
 use Rattle.value.proofs.Cases.{never}
-use Rattle.value.proofs.RoundTrip.{encoded-decodes, value-read}
+use Rattle.value.proofs.RoundTrip.{encoded-decodes, value-read, read-stored}
 use Rattle.model.specs.Entries.{found}
 use Rattle.model.specs.Table.{getOf, nextOf as tableNext}
 use Rattle.model.specs.Calls.{Outcome}
@@ -17,7 +17,8 @@ use Rattle.store.specs.declared.Record.{Record}
 use Rattle.store.specs.Store.{Slices, Store, store}
 use Rattle.store.specs.Shape.{Shaped}
 use Rattle.store.specs.Written.{Sound, tableOf}
-use Rattle.store.proofs.Sound.{sound-formed}
+use Rattle.store.proofs.Sound.{sound-formed, sound-clauses}
+use Rattle.store.proofs.Sized.{next-sized}
 use Rattle.reads.specs.declared.NextWords.{NextWords}
 use Rattle.reads.specs.declared.NextWords.the-variants.{Found as FoundWords, Last, NotFound, No as NextNo}
 use Rattle.reads.specs.Reads.{NextAnswers}
@@ -68,6 +69,19 @@ module _ {s : Store} (S : Sound s) (key : Value) where
       go Last p e = never (cc)
       go NotFound p e = never (cc)
       go (NextNo n) p e = never (cc)
+
+  -- what is handed out, stored, is what the table has; and read again it is what was handed out
+  pub next-words : (k v : Value) → NextOfValue s key (Found k v) → NextAnswers s (encoded key) (FoundWords (encoded k) (encoded v))
+  next-words k v p =
+      let x = next-read k v p in
+      let l = next-sized S (encoded key) (x .0) (x .1) (x .2) in
+      (sound-clauses s S .shape, λ S. x .2 ∙ ap₂ found (sym (read-stored (x .0) k (l .0) (x .3))) (sym (read-stored (x .1) v (l .1) (x .4))))
+
+  pub next-again : (k v : Value) → NextOfValue s key (Found k v) → (valueOf (encoded k) ≡ k) × (valueOf (encoded v) ≡ v)
+  next-again k v p =
+      let e : Found k v ≡ Found (valueOf (encoded k)) (valueOf (encoded v)) =
+      p .2 ∙ ap nextOf (reads.next-unique s (encoded key) (p .0) (FoundWords (encoded k) (encoded v)) (inl S) (p .1) (next-words k v p)) in
+      (cc, cc)
 
 -- ---- a set that was done
 module _ (s : Store) (key v p : Value) (after : Slices) (x : Record) (d : SetValue s key v after (Done p x)) where

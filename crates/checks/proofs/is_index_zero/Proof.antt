@@ -1,20 +1,20 @@
 -- `checks::is_index_zero` meets its contract: the first i words are 0. Assumes nothing.
 use mathlib.Core.Path.{_≡_, refl}
-use Prim.Native.Nat.{ℕ, _-_, _≤_, _<_}
+use Prim.Native.Nat.{_-_}
 use native.Mathlib.Omega.{arith}
-use lib.ListN.{length, getD}
-use Rattle.lent.proofs.Says.{says-yes, says-no, none-below, one-more}
+use lib.ListN.{length}
+use Rattle.checks.proofs.Tests.{Tested, tested-start, tested-turn, tested-no, tested-yes, zeros-said}
 use Rattle.checks.proofs.is_index_zero.Statement.{statement}
 use Rattle.checks.proofs.is_index_zero.Tie as tie
 
 abbrev Inv-loop : tie.InvT-loop
-Inv-loop index i₀ i-end i = (i ≤ i-end) × (i-end ≡ length index) × ((j : ℕ) → j < i → getD index j 0 ≡ 0)
+Inv-loop index i₀ i-end i = (i-end ≡ length index) × Tested (λ _. 0) index i
 
 abbrev μ-loop : tie.MeasureT-loop
 μ-loop index i₀ i-end i = i-end - i
 
 loop-holds : tie.Need-loop-holds Inv-loop μ-loop
-loop-holds c = (omega arith, refl, none-below _)
+loop-holds c = (refl, tested-start _ _)
 
 mul-if1 : tie.Need-mul-if1 Inv-loop μ-loop
 mul-if1 c = omega arith
@@ -23,7 +23,9 @@ shared-slice-read-if1 : tie.Need-shared-slice-read-if1 Inv-loop μ-loop
 shared-slice-read-if1 c = omega arith
 
 returns : tie.Need-returns Inv-loop μ-loop
-returns c = says-no (λ all. c .if1 .taken (all (c .before .before .before .loop .i) (omega arith) (omega arith)))
+returns c =
+    let at = c .before .before .before in
+    zeros-said (at .before .args .index .now) (tested-no (omega arith) (c .if1 .taken) refl (at .loop .inv .1))
 
 add-i : tie.Need-add-i Inv-loop μ-loop
 add-i c = omega arith
@@ -32,12 +34,10 @@ loop-less : tie.Need-loop-less Inv-loop μ-loop
 loop-less c = omega arith
 
 loop-again : tie.Need-loop-again Inv-loop μ-loop
-loop-again c =
-    let at = c .before .before .before in
-    (omega arith, refl, one-more _ (at .loop .i) (at .loop .inv .2) (c .if1 .left))
+loop-again c = (refl, tested-turn (omega arith) (c .if1 .left) refl (c .before .before .before .loop .inv .1))
 
 returns-2 : tie.Need-returns-2 Inv-loop μ-loop
-returns-2 c = says-yes (λ j h g. c .before .loop .inv .2 j (omega arith))
+returns-2 c = zeros-said (c .before .before .args .index .now) (tested-yes (omega arith) (c .before .loop .inv .1))
 
 pub is-index-zero-spec : {M : Type 1} → statement M
 is-index-zero-spec =

@@ -18,14 +18,8 @@ loop-holds c = omega arith
 sub-loop : tie.Need-sub-loop Inv-loop μ-loop
 sub-loop c = omega arith
 
-call-at-requires : tie.Need-call-at-requires Inv-loop μ-loop
-call-at-requires c κs = omega arith
-
-add-sequence-in : tie.Need-add-sequence-in Inv-loop μ-loop
-add-sequence-in c = omega arith
-
-sequence-in-requires : tie.Need-sequence-in-requires Inv-loop μ-loop
-sequence-in-requires c κs = omega arith
+sequence-at-requires : tie.Need-sequence-at-requires Inv-loop μ-loop
+sequence-at-requires c κs = omega arith
 
 loop-less : tie.Need-loop-less Inv-loop μ-loop
 loop-less c = omega arith
@@ -53,9 +47,7 @@ run-spec =
     μ-loop
     loop-holds
     sub-loop
-    call-at-requires
-    add-sequence-in
-    sequence-in-requires
+    sequence-at-requires
     loop-less
     loop-again
     same-length

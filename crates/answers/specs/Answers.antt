@@ -1,0 +1,41 @@
+-- What a table answers to a trace's request, and what is promised of a request that is answered on a store. Assumes nothing.
+use mathlib.Core.Path.{_≡_}
+use Rattle.model.specs.Entries.{NextValue, found, last, notFound}
+use Rattle.model.specs.Table.{Room, Table, getOf, nextOf}
+use Rattle.model.specs.Calls.{setOf, reserveOf}
+use Rattle.model.specs.Length.{lengthOf}
+use Rattle.store.specs.Store.{Store}
+use Rattle.store.specs.Written.{Sound, tableOf}
+use Rattle.writes.specs.Writes.{roomFor}
+use Rattle.table.specs.Stays.{Stays}
+use Rattle.records.specs.declared.Request.{Request}
+use Rattle.records.specs.declared.Request.the-variants.{Get, Set, Length, Next, Reserve}
+use Rattle.records.specs.Requests.{Passed}
+use Rattle.replies.specs.declared.Reply.{Reply}
+use Rattle.replies.specs.declared.Reply.the-variants.{Got, Set as WasSet, Length as Measures, Found, Last, NotFound, Reserved}
+
+abbrev pub stepReply : NextValue → Reply
+stepReply (found k v) = Found k v
+stepReply last = Last
+stepReply notFound = NotFound
+
+-- what a table answers to a request
+abbrev pub replyOf : Room → Table → Request → Reply
+replyOf room t (Get k) = Got (getOf t k)
+replyOf room t (Set k v) = WasSet (setOf room t k v .refusal) (setOf room t k v .previous)
+replyOf room t Length = Measures (lengthOf t)
+replyOf room t (Next k) = stepReply (nextOf t k)
+replyOf room t (Reserve n) = Reserved (reserveOf room t n .refusal)
+
+abbrev pub tableAfter : Room → Table → Request → Table
+tableAfter room t (Get k) = t
+tableAfter room t (Set k v) = setOf room t k v .table
+tableAfter room t Length = t
+tableAfter room t (Next k) = t
+tableAfter room t (Reserve n) = reserveOf room t n .table
+
+-- a request that is answered
+pub record Answers (before : Store) (q : Request) (after : Store) (r : Reply) : Type 0 where
+  pub reply : Sound before → r ≡ replyOf (roomFor before) (tableOf before) q
+  pub table : Sound before → tableOf after ≡ tableAfter (roomFor before) (tableOf before) q
+  pub kept : Sound before → Passed q → Stays before after

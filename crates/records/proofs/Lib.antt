@@ -1,0 +1,5 @@
+pub mod Numbers
+pub mod Ways
+pub mod Readings
+pub mod RoundTrip
+pub mod Rows

@@ -1,0 +1,165 @@
+-- `replies::write` meets its contract. Assumes nothing.
+use mathlib.Core.Path.{sym, ap, _∙_}
+use Prim.Native.Nat.{ℕ}
+use borrow.Author.Needs.{needs}
+use Rattle.replies.specs.declared.Reply.the-variants.{Set, Reserved, Fault}
+use Rattle.replies.proofs.Appending.{appends-reply}
+use Rattle.replies.proofs.write.Statement.{statement}
+use Rattle.replies.proofs.write.Tie as tie
+
+enum-known-reply : tie.Need-enum-known-reply
+enum-known-reply c = search needs
+
+put-got-requires : tie.Need-put-got-requires
+put-got-requires c κs = search needs
+
+enum-known-reply-2 : tie.Need-enum-known-reply-2
+enum-known-reply-2 c = search needs
+
+wide-requires : tie.Need-wide-requires
+wide-requires c κs = search needs
+
+put-set-requires : tie.Need-put-set-requires
+put-set-requires c κs = search needs
+
+enum-known-reply-3 : tie.Need-enum-known-reply-3
+enum-known-reply-3 c = search needs
+
+put-length-requires : tie.Need-put-length-requires
+put-length-requires c κs = search needs
+
+enum-known-reply-4 : tie.Need-enum-known-reply-4
+enum-known-reply-4 c = search needs
+
+put-found-requires : tie.Need-put-found-requires
+put-found-requires c κs = search needs
+
+enum-told : tie.Need-enum-told
+enum-told c = search needs
+
+put-short-requires : tie.Need-put-short-requires
+put-short-requires c κs = search needs
+
+enum-told-2 : tie.Need-enum-told-2
+enum-told-2 c = search needs
+
+put-short-requires-2 : tie.Need-put-short-requires-2
+put-short-requires-2 c κs = search needs
+
+enum-known-reply-5 : tie.Need-enum-known-reply-5
+enum-known-reply-5 c = search needs
+
+wide-requires-2 : tie.Need-wide-requires-2
+wide-requires-2 c κs = search needs
+
+put-short-requires-3 : tie.Need-put-short-requires-3
+put-short-requires-3 c κs = search needs
+
+enum-known-reply-6 : tie.Need-enum-known-reply-6
+enum-known-reply-6 c = search needs
+
+wide-requires-3 : tie.Need-wide-requires-3
+wide-requires-3 c κs = search needs
+
+put-short-requires-4 : tie.Need-put-short-requires-4
+put-short-requires-4 c κs = search needs
+
+same-length : tie.Need-same-length
+same-length c = search needs
+
+returns : tie.Need-returns
+returns c = appends-reply (c .before .before .before .before .before .reply .given .1) (c .before .before .put-got .ensures)
+
+same-length-2 : tie.Need-same-length-2
+same-length-2 c = search needs
+
+returns-2 : tie.Need-returns-2
+returns-2 c =
+    let put = c .before .before in
+    let wide = put .before in
+    let known = wide .before .before .before in
+    appends-reply (known .reply2 .given .1 ∙ ap (λ (n : ℕ). Set n (known .reply2 .given .0 .1 .0)) (sym (wide .wide .ensures))) (put .put-set .ensures)
+
+same-length-3 : tie.Need-same-length-3
+same-length-3 c = search needs
+
+returns-3 : tie.Need-returns-3
+returns-3 c = appends-reply (c .before .before .before .before .before .reply3 .given .1) (c .before .before .put-length .ensures)
+
+same-length-4 : tie.Need-same-length-4
+same-length-4 c = search needs
+
+returns-4 : tie.Need-returns-4
+returns-4 c = appends-reply (c .before .before .before .before .before .reply4 .given .1) (c .before .before .put-found .ensures)
+
+same-length-5 : tie.Need-same-length-5
+same-length-5 c = search needs
+
+returns-5 : tie.Need-returns-5
+returns-5 c = appends-reply (c .before .before .before .before .enum-told .given .1) (c .before .before .put-short .ensures)
+
+same-length-6 : tie.Need-same-length-6
+same-length-6 c = search needs
+
+returns-6 : tie.Need-returns-6
+returns-6 c = appends-reply (c .before .before .before .before .enum-told2 .given .1) (c .before .before .put-short2 .ensures)
+
+same-length-7 : tie.Need-same-length-7
+same-length-7 c = search needs
+
+returns-7 : tie.Need-returns-7
+returns-7 c =
+    let put = c .before .before in
+    let wide = put .before in
+    let known = wide .before .before .before in
+    appends-reply (known .reply5 .given .1 ∙ ap (λ (n : ℕ). Reserved n) (sym (wide .wide2 .ensures))) (put .put-short3 .ensures)
+
+same-length-8 : tie.Need-same-length-8
+same-length-8 c = search needs
+
+returns-8 : tie.Need-returns-8
+returns-8 c =
+    let put = c .before .before in
+    let wide = put .before in
+    let known = wide .before .before .before in
+    appends-reply (known .reply6 .given .1 ∙ ap (λ (n : ℕ). Fault n) (sym (wide .wide3 .ensures))) (put .put-short4 .ensures)
+
+pub write-spec : {M : Type 1} → statement M
+write-spec =
+    tie.close
+    (tie.spec
+    enum-known-reply
+    put-got-requires
+    enum-known-reply-2
+    wide-requires
+    put-set-requires
+    enum-known-reply-3
+    put-length-requires
+    enum-known-reply-4
+    put-found-requires
+    enum-told
+    put-short-requires
+    enum-told-2
+    put-short-requires-2
+    enum-known-reply-5
+    wide-requires-2
+    put-short-requires-3
+    enum-known-reply-6
+    wide-requires-3
+    put-short-requires-4
+    same-length
+    returns
+    same-length-2
+    returns-2
+    same-length-3
+    returns-3
+    same-length-4
+    returns-4
+    same-length-5
+    returns-5
+    same-length-6
+    returns-6
+    same-length-7
+    returns-7
+    same-length-8
+    returns-8)

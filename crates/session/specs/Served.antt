@@ -1,0 +1,52 @@
+-- What is promised of requests that are answered on a store, the input coming in pieces: the output is the trace's. Assumes nothing.
+use mathlib.Core.Path.{_≡_}
+use mathlib.Core.Logic.{_⊎_}
+use mathlib.Core.Bool.{Bool, true, false, cond}
+use mathlib.Core.List.{List, [], _++_}
+use Prim.Native.Nat.{ℕ, _+_, _*_, _<_, _≤_}
+use lib.ListN.{length, drop}
+use Rattle.store.specs.Store.{Slices, Store, store}
+use Rattle.store.specs.Written.{Sound, tableOf}
+use Rattle.writes.specs.Writes.{roomFor}
+use Rattle.table.specs.Stays.{Stays}
+use Rattle.records.specs.Requests.{isWhole}
+use Rattle.replies.specs.Replies.{Appends, longest}
+use Rattle.session.specs.declared.Progress.{Progress}
+use Rattle.session.specs.Trace.{traceOf}
+
+-- the further input that may follow, once the first record is decided
+abbrev pub Decided : List ℕ → List ℕ → Type 0
+Decided input more = (isWhole input ≡ true) ⊎ (more ≡ [])
+
+-- once it is known whether the input has ended
+abbrev pub Further : Bool → List ℕ → Type 0
+Further last more = last ≡ true → more ≡ []
+
+-- `out` is the trace's output for what was taken of the input, whatever follows that may: `May`
+pub record Served (before after : Store) (May : List ℕ → Type 0) (input out : List ℕ) (taken : ℕ) (stopped : Bool) : Type 0 where
+  pub takes : taken ≤ length input
+  pub kept : Sound before → Stays before after
+  pub trace : Sound before → (more : List ℕ) → May more
+      → traceOf (roomFor before) (tableOf before) (input ++ more) ≡ out ++ cond stopped [] (traceOf (roomFor before) (tableOf after) (drop taken input ++ more))
+
+-- the same with `out` written into a slice from a place on
+abbrev pub ServedInto : Store → Slices → (List ℕ → Type 0) → List ℕ → List ℕ → ℕ → List ℕ → Progress → Type 0
+ServedInto before after May input was at output r =
+    (out : List ℕ) × Appends was at out output (r .made) × Served before (store after (r .sizes)) May input out (r .taken) (r .stopped)
+
+-- a request takes bytes, and on a sound store its reply has at most three times as many
+pub record Paced (before : Store) (at : ℕ) (r : Progress) : Type 0 where
+  pub takes : r .stopped ≡ false → 0 < r .taken
+  pub short : Sound before → r .stopped ≡ false → r .made ≤ at + 3 * r .taken
+
+-- with room enough, nothing is left undone that could be done: what is left waits for more input
+abbrev pub Waits : Store → List ℕ → Bool → List ℕ → Progress → Type 0
+Waits before input last output r =
+    Sound before → 3 * length input + longest ≤ length output → r .stopped ≡ false → (last ≡ false) × (isWhole (drop (r .taken) input) ≡ false)
+
+-- ---- a whole run
+-- `Fed s held rest out`: on s, with `held` read and not yet taken and `rest` still to be read, this is written, piece by piece
+pub data Fed : Store → List ℕ → List ℕ → List ℕ → Type 0 where
+  stops : {s after : Store} {held rest out : List ℕ} {taken : ℕ} (last : Bool) → Further last rest → Served s after (Further last) held out taken true → Fed s held rest out
+  goes : {s after : Store} {held rest out outs : List ℕ} {taken : ℕ} (piece : List ℕ) → Served s after (Further false) held out taken false
+      → Fed after (drop taken held ++ piece) rest outs → Fed s held (piece ++ rest) (out ++ outs)
