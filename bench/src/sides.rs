@@ -30,13 +30,13 @@ pub trait Side {
 }
 
 extern "C" {
-    fn amzighrod_fresh(array: *mut u64, array_len: usize, entries: *mut u64, entries_len: usize, index: *mut u16, index_len: usize, size: *mut usize, allowance: *mut usize, count: *mut usize) -> u8;
-    fn amzighrod_check(array: *const u64, array_len: usize, entries: *const u64, entries_len: usize, index: *const u16, index_len: usize, size: usize, allowance: usize, count: usize) -> bool;
-    fn amzighrod_get(array: *const u64, array_len: usize, entries: *const u64, entries_len: usize, index: *const u16, index_len: usize, size: usize, allowance: usize, count: usize, key_kind: u64, key_payload: u64, kind: *mut u64, payload: *mut u64) -> u8;
-    fn amzighrod_set(array: *mut u64, array_len: usize, entries: *mut u64, entries_len: usize, index: *mut u16, index_len: usize, size: *mut usize, allowance: *mut usize, count: *mut usize, key_kind: u64, key_payload: u64, value_kind: u64, value_payload: u64, kind: *mut u64, payload: *mut u64) -> u8;
-    fn amzighrod_next(array: *const u64, array_len: usize, entries: *const u64, entries_len: usize, index: *const u16, index_len: usize, size: usize, allowance: usize, count: usize, key_kind: *mut u64, key_payload: *mut u64, kind: *mut u64, payload: *mut u64) -> u8;
-    fn amzighrod_length(array: *const u64, array_len: usize, entries: *const u64, entries_len: usize, index: *const u16, index_len: usize, size: usize, allowance: usize, count: usize, border: *mut u64) -> u8;
-    fn amzighrod_reserve(array: *mut u64, array_len: usize, entries: *mut u64, entries_len: usize, index: *mut u16, index_len: usize, size: *mut usize, allowance: *mut usize, count: *mut usize, n: usize) -> u8;
+    fn amzighrod_fresh(array: *mut u64, arraywords: usize, entries: *mut u64, entrywords: usize, index: *mut u16, indexwords: usize, size: *mut usize, allowance: *mut usize, count: *mut usize) -> u8;
+    fn amzighrod_check(array: *const u64, arraywords: usize, entries: *const u64, entrywords: usize, index: *const u16, indexwords: usize, size: usize, allowance: usize, count: usize) -> bool;
+    fn amzighrod_get(array: *const u64, arraywords: usize, entries: *const u64, entrywords: usize, index: *const u16, indexwords: usize, size: usize, allowance: usize, count: usize, keykind: u64, keypayload: u64, kind: *mut u64, payload: *mut u64) -> u8;
+    fn amzighrod_set(array: *mut u64, arraywords: usize, entries: *mut u64, entrywords: usize, index: *mut u16, indexwords: usize, size: *mut usize, allowance: *mut usize, count: *mut usize, keykind: u64, keypayload: u64, valuekind: u64, valuepayload: u64, kind: *mut u64, payload: *mut u64) -> u8;
+    fn amzighrod_next(array: *const u64, arraywords: usize, entries: *const u64, entrywords: usize, index: *const u16, indexwords: usize, size: usize, allowance: usize, count: usize, keykind: *mut u64, keypayload: *mut u64, kind: *mut u64, payload: *mut u64) -> u8;
+    fn amzighrod_length(array: *const u64, arraywords: usize, entries: *const u64, entrywords: usize, index: *const u16, indexwords: usize, size: usize, allowance: usize, count: usize, border: *mut u64) -> u8;
+    fn amzighrod_reserve(array: *mut u64, arraywords: usize, entries: *mut u64, entrywords: usize, index: *mut u16, indexwords: usize, size: *mut usize, allowance: *mut usize, count: *mut usize, n: usize) -> u8;
 }
 
 #[derive(Clone, Copy)]

@@ -77,7 +77,8 @@ uint8_t amzighrod_get(const uint64_t *array, size_t arraywords, const uint64_t *
                       uint64_t *kind, uint64_t *payload);
 
 /* Puts a value under a key; Nil clears it. The value that was there, Nil if none, goes to *kind and *payload. Returns 0, 1, 2, 3 or 4.
-   A Number that is a whole number from -2^63 to 2^63 - 1 is that Integer as a key: 1480.0 and 1480 are one, and so are -0.0 and 0.
+   A Number that is a whole number from -2^63 to 2^63 - 1 is that Integer as a key: 1480.0 and 1480 are one, and so are -0.0 and 0. The Number
+   2^63 is the largest Integer as a key, as in the original.
    No room (3) comes where the key is new, all e entries have values, and a larger array would take in neither the key nor any of them. */
 uint8_t amzighrod_set(uint64_t *array, size_t arraywords, uint64_t *entries, size_t entrywords, uint16_t *index, size_t indexwords,
                       size_t *size, size_t *allowance, size_t *count, uint64_t keykind, uint64_t keypayload, uint64_t valuekind,

@@ -7,19 +7,23 @@ from pathlib import Path
 HERE = Path(__file__).resolve().parent
 BUILD = HERE / "oracle/build"
 PROGRAM = HERE.parents[1] / "target/oracle/target/release/oracle"
-# Kinds of records that only the oracle has: a whole walk, which it makes by itself, and the end of a trace in a panic.
-WALK, PANIC = 6, 512
+# Kinds of records that only the oracle has: a whole walk, which it makes by itself, the sizes of array and map, reserve_array, and the end of a trace in a panic.
+WALK, SIZES, RESERVE_ARRAY, PANIC = 6, 7, 8, 512
 
 
-def answers(traces):
-    """What the original's table answers to each trace."""
-    records = [one.originals() for one in traces]
-    given = b"".join(struct.pack("<II", one.seed % 2**32, len(r)) + r for one, r in zip(traces, records))
-    out = subprocess.run([PROGRAM], input=given, stdout=subprocess.PIPE, check=True).stdout
+def replies(records):
+    """The replies of a table of the original's to the records of each trace, which come with their hash seeds."""
+    data = b"".join(struct.pack("<II", seed, len(calls)) + calls for seed, calls in records)
+    out = subprocess.run([PROGRAM], input=data, stdout=subprocess.PIPE, check=True).stdout
     found, at = [], 0
     while at < len(out):
         (length,) = struct.unpack_from("<I", out, at)
         found.append(out[at + 4 : at + 4 + length])
         at += 4 + length
-    assert len(found) == len(traces), "the oracle did not answer every trace"
+    assert len(found) == len(records), "the oracle did not answer every trace"
     return found
+
+
+def answers(traces):
+    """What the original's table answers to each trace."""
+    return replies([(one.seed % 2**32, one.originals()) for one in traces])

@@ -3,30 +3,27 @@ use mathlib.Core.Path.{_≡_, refl, sym, ap, subst, _∙_}
 use Prim.Native.Nat.{ℕ}
 use Rattle.value.specs.declared.Words.{Words}
 use Rattle.value.specs.Encoding.{Decodes}
-use Rattle.model.specs.Entries.{NextValue, found, last, notFound}
-use Rattle.model.specs.Table.{nextOf}
 use Rattle.model.specs.Calls.{Outcome}
-use Rattle.store.specs.Store.{Slices, Store}
+use Rattle.store.specs.Store.{Slices, Store, roomFor}
 use Rattle.store.specs.Written.{Sound, tableOf}
 use Rattle.reads.specs.declared.GotWords.{GotWords}
 use Rattle.reads.specs.declared.GotWords.the-variants.{Value, No as GetNo}
 use Rattle.reads.specs.declared.NextWords.{NextWords}
-use Rattle.reads.specs.declared.NextWords.the-variants.{Found as FoundWords, Last as LastWords, NotFound as NotFoundWords, No as NextNo}
 use Rattle.reads.specs.declared.Measured.{Measured}
 use Rattle.reads.specs.declared.Measured.the-variants.{Length as MeasuredLength, No as LengthNo}
 use Rattle.reads.specs.Reads.{GetAnswers, NextAnswers, LengthAnswers}
-use Rattle.reads.proofs.Unique.{inWords, get-done, next-done, length-done}
+use Rattle.reads.proofs.Unique.{get-done, next-done, length-done}
 use Rattle.writes.specs.declared.SetWords.{SetWords}
 use Rattle.writes.specs.declared.Reserved.{Reserved}
-use Rattle.writes.specs.Writes.{Left, setLeft, reserveLeft, RoomOnly, SetNumbers, Promised, roomFor, setOutcome, reserveOutcome, SetDone, ReserveDone}
+use Rattle.writes.specs.Writes.{Left, setLeft, reserveLeft, RoomOnly, SetNumbers, Promised, setOutcome, reserveOutcome, SetDone, ReserveDone}
 use Rattle.table.specs.Stays.{Stays}
-use Rattle.table.proofs.Answers.{refusal-is, previous-is, table-is, set-stays, reserve-stays}
+use Rattle.table.proofs.Outcomes.{refusal-is, previous-is, table-is, set-stays, reserve-stays}
 use Rattle.records.specs.declared.Request.{Request}
 use Rattle.records.specs.declared.Request.the-variants.{Get, Set, Length, Next, Reserve}
-use Rattle.records.specs.Requests.{Passed}
+use Rattle.records.specs.Requests.{ValuesPassed}
 use Rattle.replies.specs.declared.Reply.{Reply}
-use Rattle.replies.specs.declared.Reply.the-variants.{Got, Set as WasSet, Length as Measures, Found, Last, NotFound, Reserved as WasReserved, Fault}
-use Rattle.answers.specs.Answers.{stepReply, replyOf, tableAfter, Answers}
+use Rattle.replies.specs.declared.Reply.the-variants.{Got, Set as WasSet, Length as Measures, Reserved as WasReserved, Fault}
+use Rattle.answers.specs.Answers.{nextReply, replyOf, tableAfter, Answers}
 
 -- ---- the answer of a call that reads, as a reply
 abbrev pub gotReply : GotWords → Reply
@@ -36,17 +33,6 @@ gotReply (GetNo n) = Fault n
 abbrev pub measuredReply : Measured → Reply
 measuredReply (MeasuredLength n) = Measures n
 measuredReply (LengthNo n) = Fault n
-
-abbrev pub nextReply : NextWords → Reply
-nextReply (FoundWords k v) = Found k v
-nextReply LastWords = Last
-nextReply NotFoundWords = NotFound
-nextReply (NextNo n) = Fault n
-
-in-words : (n : NextValue) → nextReply (inWords n) ≡ stepReply n
-in-words (found k v) = refl
-in-words last = refl
-in-words notFound = refl
 
 -- ---- a read leaves the store as it is
 module _ (s : Store) where
@@ -60,12 +46,12 @@ module _ (s : Store) where
   length-answers a r p e = read Length r refl (λ S. e ∙ ap measuredReply (length-done s a p S))
 
   pub next-answers : (key : Words) (a : NextWords) (r : Reply) → NextAnswers s key a → r ≡ nextReply a → Answers s (Next key) s r
-  next-answers key a r p e = read (Next key) r refl (λ S. e ∙ ap nextReply (next-done s key a p S) ∙ in-words (nextOf (tableOf s) key))
+  next-answers key a r p e = read (Next key) r refl (λ S. e ∙ ap nextReply (next-done s key a p S))
 
 -- ---- a write leaves its outcome
 write : {s : Store} {o : Outcome} {Numbers : ℕ → Type 0} {Given : Type 0} {l : Left} (q : Request) (reply : ℕ → Words → Reply)
     → reply (o .refusal) (o .previous) ≡ replyOf (roomFor s) (tableOf s) q → o .table ≡ tableAfter (roomFor s) (tableOf s) q
-    → Promised s o Numbers Given l → (Sound s → Passed q → Stays s (l .store)) → Answers s q (l .store) (reply (l .refusal) (l .previous))
+    → Promised s o Numbers Given l → (Sound s → ValuesPassed q → Stays s (l .store)) → Answers s q (l .store) (reply (l .refusal) (l .previous))
 write q reply e t p stays =
     record {
       reply = λ S. (λ j. reply (refusal-is S p j) (previous-is S p j)) ∙ e;

@@ -59,9 +59,9 @@ fn answer_set(
     ensures { λ r. ⌜ Answers (storeOf (now (array .entry)) (now (entries .entry)) (now (index .entry)) sizes) (Set key v) (storeOf (now (array .exit)) (now (entries .exit)) (now (index .exit)) (r .sizes)) (r .reply) ⌝ }
 {
     match writes::set_words(array, entries, index, sizes, key, v) {
-        SetWords::Done(previous, after) => Answered {
+        SetWords::Done(previous, left) => Answered {
             reply: Reply::Set(0, previous),
-            sizes: after,
+            sizes: left,
         },
         SetWords::No(n) => Answered {
             reply: Reply::Set(n, value::nil()),

@@ -1,5 +1,5 @@
--- Demand 1 on stores: a set or a reserve is refused for the reasons of 01 and for no other, with that number; and a set that is done shows in
--- the gets after it. That a refusal changes no word is in the promise itself. Assumes nothing.
+-- Demand 1 on stores: a set or a reserve is refused for the reasons of 01 and for no other, and changes no word then; and a set that is done
+-- shows in the gets after it. Assumes nothing.
 use mathlib.Core.Path.{_≡_, sym, ap, subst, _∙_}
 use mathlib.Core.Bool.{false}
 use mathlib.Core.Logic.{inl, inr}
@@ -12,11 +12,11 @@ use Rattle.key.specs.declared.CanonicalKey.the-variants.{Key}
 use Rattle.key.specs.Refusals.{noRoom}
 use Rattle.key.specs.Canonical.{canonicalKey}
 use Rattle.model.specs.Calls.{Outcome}
-use Rattle.model.specs.Refused.{Refused, NoSpace}
+use Rattle.model.specs.Refused.{Refused}
 use Rattle.model.specs.Means.{Means}
 use Rattle.model.proofs.Refusals.{set-refused, refused-set, reserve-refused, refused-reserve}
 use Rattle.model.proofs.Meaning.{set-means, reserve-means}
-use Rattle.store.specs.Store.{Slices, Store}
+use Rattle.store.specs.Store.{Slices, Store, roomFor}
 use Rattle.store.specs.Written.{Sound, tableOf}
 use Rattle.store.proofs.Sound.{sound-formed}
 use Rattle.reads.specs.declared.GotWords.{GotWords}
@@ -25,18 +25,20 @@ use Rattle.reads.specs.Reads.{GetAnswers}
 use Rattle.reads.proofs.Unique.{get-done}
 use Rattle.writes.specs.declared.SetWords.{SetWords}
 use Rattle.writes.specs.declared.Reserved.{Reserved}
-use Rattle.writes.specs.Writes.{setLeft, reserveLeft, roomFor, setOutcome, SetDone, ReserveDone}
-use Rattle.table.proofs.Answers.{refusal-is, previous-is, get-left, set-stays, reserve-stays}
+use Rattle.writes.specs.Writes.{setLeft, reserveLeft, setOutcome, SetDone, ReserveDone}
+use Rattle.demands.specs.Refusals.{SetRefuses, ReserveRefuses}
+use Rattle.table.proofs.Outcomes.{refusal-is, previous-is, get-left, set-stays, reserve-stays}
 
 -- ---- set
 module _ (s : Store) (key v : Words) (after : Slices) (r : SetWords) (S : Sound s) (p : SetDone s key v after r) where
-  pub set-refuses : (setLeft (s .sizes) after r .refusal ≡ 0 → ⊥) → Refused (roomFor s) (tableOf s) key v (setLeft (s .sizes) after r .refusal)
-  set-refuses n =
-      let e = refusal-is S (p .1) in
-      subst (Refused (roomFor s) (tableOf s) key v) (sym e) (set-refused (roomFor s) (tableOf s) key v (sound-formed s S) (λ z. n (e ∙ z)))
-
-  pub refuses-set : {n : ℕ} → Refused (roomFor s) (tableOf s) key v n → setLeft (s .sizes) after r .refusal ≡ n
-  refuses-set f = refusal-is S (p .1) ∙ refused-set (roomFor s) (tableOf s) key v f
+  pub set-refuses : SetRefuses s key v (setLeft (s .sizes) after r)
+  set-refuses = record {
+    only = λ n.
+        let e = refusal-is S (p .1) in
+        subst (Refused (roomFor s) (tableOf s) key v) (sym e) (set-refused (roomFor s) (tableOf s) key v (sound-formed s S) (λ z. n (e ∙ z)));
+    always = λ f. refusal-is S (p .1) ∙ refused-set (roomFor s) (tableOf s) key v f;
+    unchanged = p .1 .does .refused;
+  }
 
   -- done, with a key and a value that are values'
   module _ (k : Words) (dk : Decodes key) (dv : Decodes v) (c : canonicalKey key ≡ Key k) (z : setLeft (s .sizes) after r .refusal ≡ 0) where
@@ -62,14 +64,15 @@ module _ (s : Store) (key v : Words) (after : Slices) (r : SetWords) (S : Sound 
 
 -- ---- reserve
 module _ (s : Store) (n : ℕ) (after : Slices) (r : Reserved) (S : Sound s) (p : ReserveDone s n after r) where
-  pub reserve-refuses : (reserveLeft (s .sizes) after r .refusal ≡ 0 → ⊥) → NoSpace (roomFor s) (tableOf s) n × (reserveLeft (s .sizes) after r .refusal ≡ noRoom)
-  reserve-refuses f =
-      let e = refusal-is S (p .1) in
-      let x = reserve-refused (roomFor s) (tableOf s) n (λ z. f (e ∙ z)) in
-      (x .1, e ∙ ap (λ (o : Outcome). o .refusal) (x .0))
-
-  pub refuses-reserve : NoSpace (roomFor s) (tableOf s) n → reserveLeft (s .sizes) after r .refusal ≡ noRoom
-  refuses-reserve f = refusal-is S (p .1) ∙ ap (λ (o : Outcome). o .refusal) (refused-reserve (roomFor s) (tableOf s) n f)
+  pub reserve-refuses : ReserveRefuses s n (reserveLeft (s .sizes) after r)
+  reserve-refuses = record {
+    only = λ f.
+        let e = refusal-is S (p .1) in
+        let x = reserve-refused (roomFor s) (tableOf s) n (λ z. f (e ∙ z)) in
+        (x .1, e ∙ ap (λ (o : Outcome). o .refusal) (x .0));
+    always = λ f. refusal-is S (p .1) ∙ ap (λ (o : Outcome). o .refusal) (refused-reserve (roomFor s) (tableOf s) n (f .0)) ∙ sym (f .1);
+    unchanged = p .1 .does .refused;
+  }
 
   -- done or refused, it changes no get
   pub all-shown : (j : Words) (a b : GotWords) → GetAnswers (reserveLeft (s .sizes) after r .store) j a → GetAnswers s j b → a ≡ b

@@ -14,20 +14,19 @@ use Rattle.original.specs.Agreement.{Agree}
 use Rattle.original.proofs.Demand2.{demand2 as model-agrees}
 use Rattle.store.specs.declared.Record.{Record}
 use Rattle.store.specs.declared.Made.the-variants.{Store as Stored}
-use Rattle.store.specs.Store.{Slices, Store, store, lengthsOf, roomOf}
+use Rattle.store.specs.Store.{Slices, Store, store, lengthsOf, roomOf, roomFor}
 use Rattle.store.specs.Written.{Sound, tableOf}
 use Rattle.store.specs.Fresh.{FreshMade}
 use Rattle.store.proofs.Views.{table-written}
-use Rattle.store.proofs.Sound.{sound-formed}
+use Rattle.store.proofs.Sound.{sound-formed, sound-shaped}
 use Rattle.store.proofs.Unique.{fresh-made-sound}
 use Rattle.reads.specs.declared.GotWords.the-variants.{Value}
-use Rattle.reads.specs.declared.NextWords.the-variants.{Found, Last}
 use Rattle.reads.specs.declared.Measured.the-variants.{Length}
 use Rattle.reads.proofs.Unique.{get-done, length-done}
-use Rattle.writes.specs.Writes.{Left, Promised, roomFor}
+use Rattle.writes.specs.Writes.{Left, Promised}
 use Rattle.demands.specs.Calls.{gotAnswer, leftAnswer, Called, none, got, wrote, reserved, ValuesPassed, Listed, end, more, Agrees}
 use Rattle.table.specs.Stays.{Stays}
-use Rattle.table.proofs.Answers.{next-is, is-next, refusal-is, previous-is, table-is, set-stays, reserve-stays}
+use Rattle.table.proofs.Outcomes.{refusal-is, previous-is, table-is, set-stays, reserve-stays}
 
 -- ---- calls on a store are calls on its table
 -- what a run of the table says, and the table that it ends in, are said and held here
@@ -57,12 +56,12 @@ called S a (reserved {cs = cs} k after r p m) =
 -- ---- what agrees of the table agrees of the store
 module _ {u : Store} (U : Sound u) where
   listed-lists : {key : Words} {l : List Entry} → Listed u key l → Lists (nextOf (tableOf u)) key l
-  listed-lists {key = key} (end p) = last (next-is U key Last p)
-  listed-lists {key = key} (more k v p m) = then k v (next-is U key (Found k v) p) (listed-lists m)
+  listed-lists (end p) = last (p .1 U)
+  listed-lists (more k v p m) = then k v (p .1 U) (listed-lists m)
 
   lists-listed : {key : Words} {l : List Entry} → Lists (nextOf (tableOf u)) key l → Listed u key l
-  lists-listed {key = key} (last p) = end (is-next U key Last p)
-  lists-listed {key = key} (then k v p m) = more k v (is-next U key (Found k v) p) (lists-listed m)
+  lists-listed (last p) = end (sound-shaped u U, λ S. p)
+  lists-listed (then k v p m) = more k v (sound-shaped u U, λ S. p) (lists-listed m)
 
   agrees : {kinds : Kinds} {o : Original} → Agree kinds (tableOf u) o → Agrees kinds u o
   agrees g =

@@ -7,25 +7,22 @@ use Prim.Native.Nat.{ℕ}
 use Rattle.value.specs.declared.Words.{Words}
 use Rattle.value.specs.Encoding.{decodes}
 use Rattle.value.specs.Same.{nil, isNil}
-use Rattle.value.proofs.Cases.{never}
-use Rattle.model.specs.Entries.{Entry, NextValue, found, last}
+use Rattle.model.specs.Entries.{Entry, found}
 use Rattle.model.specs.Table.{Room, Table, getOf, nextOf}
 use Rattle.model.specs.Calls.{Outcome, setOf, reserveOf}
 use Rattle.walk.specs.History.{History, Throughout as ThroughHistory, begin as begins, read as reads, refusedSet as refusesSet, refusedReserve as refusesReserve, clear as clears, write as writes, step as steps}
-use Rattle.walk.specs.Walked.{Walked}
+use Rattle.walk.specs.Walked.{TableWalked}
 use Rattle.walk.proofs.Walk.{walk}
-use Rattle.store.specs.Store.{Store, lengthsOf, roomOf}
+use Rattle.store.specs.Store.{Store, lengthsOf, roomOf, roomFor}
 use Rattle.store.specs.Written.{Sound, tableOf}
 use Rattle.store.proofs.Sound.{sound-formed}
 use Rattle.reads.specs.declared.GotWords.the-variants.{Value}
-use Rattle.reads.specs.declared.NextWords.{NextWords}
-use Rattle.reads.specs.declared.NextWords.the-variants.{Found, Last, NotFound, No}
-use Rattle.reads.specs.Reads.{Steps}
-use Rattle.reads.proofs.Unique.{get-done}
-use Rattle.writes.specs.Writes.{Left, Promised, roomFor}
+use Rattle.reads.specs.Reads.{inWords}
+use Rattle.reads.proofs.Unique.{get-done, next-done}
+use Rattle.writes.specs.Writes.{Left, Promised}
 use Rattle.demands.specs.Walks.{Walking, begin, read, refusedSet, refusedReserve, clear, write, step, Has, Throughout, StoreWalked}
 use Rattle.table.specs.Stays.{Stays}
-use Rattle.table.proofs.Answers.{is-get, next-is, refusal-is, table-is, refused-stays, set-stays}
+use Rattle.table.proofs.Outcomes.{is-get, refusal-is, table-is, refused-stays, set-stays}
 
 -- a walk on a store as a history of its table
 record Follows (s₀ s : Store) (allowed : List Words) (key : Words) (handed : List Entry) (Through : Words → Type 0) : Type 0 where
@@ -90,28 +87,21 @@ follows S (write k v after r p d e m w) =
     wrote f (λ room t. setOf room t k v) (p .1) (set-stays k v (f .sound) d e (p .1)) (writes k v m e (f .history)) (λ j t. t)
 follows S (step {key = key} k v n w) =
     let f = follows S w in
-    looked f (steps k v (subst (λ (x : Table). nextOf x key ≡ found k v) (f .is) (next-is (f .sound) key (Found k v) n)) (f .history)) (λ j t. t)
-
--- where the table is at its end, so is the answer
-only-last : {n : NextValue} (a : NextWords) → n ≡ last → Steps n a → a ≡ Last
-only-last (Found k v) e p = never (cc)
-only-last Last e p = refl
-only-last NotFound e p = never (cc)
-only-last (No m) e p = absurd p
+    looked f (steps k v (subst (λ (x : Table). nextOf x key ≡ found k v) (f .is) (n .1 (f .sound))) (f .history)) (λ j t. t)
 
 pub demand3 : {s₀ s : Store} {allowed : List Words} {key : Words} {handed : List Entry} → Sound s₀ → (w : Walking s₀ s allowed key handed)
     → StoreWalked s₀ s key handed (Throughout w)
 demand3 {s₀ = s₀} {s = s} {key = key} {handed = handed} S w =
     let f = follows S w in
     let T = f .sound in
-    let m : Walked (roomFor s₀) (tableOf s₀) (tableOf s) key handed (ThroughHistory (f .history)) =
-    subst (λ (x : Table). Walked (roomFor s₀) (tableOf s₀) x key handed (ThroughHistory (f .history))) (sym (f .is)) (walk (sound-formed s₀ S) (f .history)) in
+    let m : TableWalked (roomFor s₀) (tableOf s₀) (tableOf s) key handed (ThroughHistory (f .history)) =
+    subst (λ (x : Table). TableWalked (roomFor s₀) (tableOf s₀) x key handed (ThroughHistory (f .history))) (sym (f .is)) (walk (sound-formed s₀ S) (f .history)) in
     record {
       sound = T;
-      there = λ p. m .there (next-is T key NotFound p);
+      there = λ p. m .there (p .1 T);
       once = m .once;
-      shows = λ k v p. let x = m .shows k v (next-is T key (Found k v) p) in (λ a g. get-done _ k a g T ∙ ap Value (x .0), x .1, x .2);
+      shows = λ k v p. let x = m .shows k v (p .1 T) in (λ a g. get-done _ k a g T ∙ ap Value (x .0), x .1, x .2);
       few = m .few;
-      ends = λ a e p. only-last a (m .ends e) (next-is T key a p);
-      all = λ p j k c t. m .all (next-is T key Last p) j k c (f .through j t);
+      ends = λ a e p. next-done _ key a p T ∙ ap inWords (m .ends e);
+      all = λ p j k c t. m .all (p .1 T) j k c (f .through j t);
     }

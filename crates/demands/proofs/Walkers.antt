@@ -13,17 +13,17 @@ use Rattle.value.proofs.Same.{same-refl}
 use Rattle.model.specs.Entries.{Entry}
 use Rattle.store.specs.Store.{Store}
 use Rattle.store.specs.Written.{Sound}
-use Rattle.store.proofs.Sound.{sound-clauses}
+use Rattle.store.proofs.Sound.{sound-shaped}
 use Rattle.reads.specs.declared.NextWords.{NextWords}
 use Rattle.reads.specs.declared.NextWords.the-variants.{Found as FoundWords, Last as LastWords, NotFound as NotFoundWords, No as NoWords}
 use Rattle.reads.specs.Reads.{NextAnswers}
 use Rattle.table.specs.declared.Got.the-variants.{Value as Is}
 use Rattle.table.specs.declared.NextValue.{NextValue}
 use Rattle.table.specs.declared.NextValue.the-variants.{Found, Last, NotFound, No as NextNo}
-use Rattle.table.specs.Values.{gotOf, nextOf, NextOfValue}
+use Rattle.table.specs.Values.{gotOf, nextValueOf, NextOfValue}
 use Rattle.table.proofs.Readings.{next-again}
 use Rattle.iter.specs.declared.Walker.{Walker}
-use Rattle.iter.specs.declared.Walked.the-variants.{Pair, End, No}
+use Rattle.iter.specs.declared.WalkerAnswer.the-variants.{Pair, End, No}
 use Rattle.iter.specs.declared.Stepped.{Stepped}
 use Rattle.iter.specs.Walker.{walker, stepped, start, advanced, WalkerSteps}
 use Rattle.demands.specs.Walks.{Walking, Throughout, StoreWalked}
@@ -39,7 +39,7 @@ module _ {s₀ s : Store} {allowed : List Words} {key : Words} {handed : List En
   m = demand3 S h
 
   -- a step is what comes of an answer of `next` from the key of the walk
-  by-next : (r : Stepped) → WalkerSteps s w r → (n : NextWords) × NextAnswers s key n × (r ≡ advanced w (nextOf n))
+  by-next : (r : Stepped) → WalkerSteps s w r → (n : NextWords) × NextAnswers s key n × (r ≡ advanced w (nextValueOf n))
   by-next r p =
       let g = p .goes (e .1) in
       (g .1 .0, subst (λ (k : Words). NextAnswers s k (g .1 .0)) (e .0) (g .1 .1), g .2 ∙ ap (advanced w) (g .1 .2))
@@ -62,18 +62,18 @@ module _ {s₀ s : Store} {allowed : List Words} {key : Words} {handed : List En
   goes-on w′ k v p = values-walk S h (w .key) k v (e .0) (pair-found w′ k v p .0)
 
   -- the end comes of Last only, and no refusal comes
-  at-last : (w′ : Walker) (n : NextWords) → NextAnswers s key n → End ≡ advanced w (nextOf n) .answer → w′ ≡ advanced w (nextOf n) .walker
+  at-last : (w′ : Walker) (n : NextWords) → NextAnswers s key n → End ≡ advanced w (nextValueOf n) .answer → w′ ≡ advanced w (nextValueOf n) .walker
       → NextAnswers s key LastWords × (w′ .done ≡ true)
   at-last w′ (FoundWords a b) p x y = never (cc)
   at-last w′ LastWords p x y = (p, ap (λ (z : Walker). z .done) y)
   at-last w′ NotFoundWords p x y = absurd (m .there p)
   at-last w′ (NoWords n) p x y = never (cc)
 
-  no-refusal : (i : ℕ) (n : NextWords) → NextAnswers s key n → No i ≡ advanced w (nextOf n) .answer → ⊥
+  no-refusal : (i : ℕ) (n : NextWords) → NextAnswers s key n → No i ≡ advanced w (nextValueOf n) .answer → ⊥
   no-refusal i (FoundWords a b) p x = never (cc)
   no-refusal i LastWords p x = never (cc)
   no-refusal i NotFoundWords p x = never (cc)
-  no-refusal i (NoWords n) p x = p .0 (sound-clauses s (m .sound) .shape)
+  no-refusal i (NoWords n) p x = p .0 (sound-shaped s (m .sound))
 
   pub walker-demand3 : WalkerWalked s₀ s key handed (Throughout h) w
   walker-demand3 =
@@ -88,7 +88,7 @@ module _ {s₀ s : Store} {allowed : List Words} {key : Words} {handed : List En
         notRefused = λ w′ i p. let n = by-next (stepped w′ (No i)) p in no-refusal i (n .0) (n .1) (ap (λ (r : Stepped). r .answer) (n .2));
         ends = λ w′ a l p.
             let n = by-next (stepped w′ a) p in
-            ap (λ (r : Stepped). r .answer) (n .2 ∙ ap (λ (y : NextWords). advanced w (nextOf y)) (m .ends (n .0) l (n .1)));
+            ap (λ (r : Stepped). r .answer) (n .2 ∙ ap (λ (y : NextWords). advanced w (nextValueOf y)) (m .ends (n .0) l (n .1)));
         all = λ w′ p.
             let n = by-next (stepped w′ End) p in
             let x = at-last w′ (n .0) (n .1) (ap (λ (r : Stepped). r .answer) (n .2)) (ap (λ (r : Stepped). r .walker) (n .2)) in

@@ -21,8 +21,8 @@ use Rattle.table.specs.declared.Got.{Got}
 use Rattle.table.specs.declared.Got.the-variants.{Value as Is}
 use Rattle.table.specs.Values.{GetValue}
 use Rattle.iter.specs.declared.Walker.{Walker}
-use Rattle.iter.specs.declared.Walked.{Walked}
-use Rattle.iter.specs.declared.Walked.the-variants.{Pair, End, No}
+use Rattle.iter.specs.declared.WalkerAnswer.{WalkerAnswer}
+use Rattle.iter.specs.declared.WalkerAnswer.the-variants.{Pair, End, No}
 use Rattle.iter.specs.Walker.{stepped, WalkerSteps}
 
 -- a walker that is not at its end, with this key
@@ -38,6 +38,6 @@ pub record WalkerWalked (s₀ s : Store) (key : Words) (handed : List Entry) (Th
       → ((a : Got) → GetValue s k a → a ≡ Is v) × (v ≡ Nil → ⊥) × (member (keysOf handed) (encoded k) ≡ false)
   pub notRefused : (w′ : Walker) (n : ℕ) → WalkerSteps s w (stepped w′ (No n)) → ⊥
   -- after n pairs the end, n being the keys with a value at the start
-  pub ends : (w′ : Walker) (a : Walked) → length handed ≡ atStart (tableOf s₀) → WalkerSteps s w (stepped w′ a) → a ≡ End
+  pub ends : (w′ : Walker) (a : WalkerAnswer) → length handed ≡ atStart (tableOf s₀) → WalkerSteps s w (stepped w′ a) → a ≡ End
   -- at the end, each key with a value throughout has come, and the walker stays there
   pub all : (w′ : Walker) → WalkerSteps s w (stepped w′ End) → (w′ .done ≡ true) × ((j k : Words) → canonicalKey j ≡ Key k → Through j → member (keysOf handed) k ≡ true)

@@ -15,7 +15,7 @@ use Rattle.model.proofs.Places.{array-tabulate}
 use Rattle.store.specs.declared.Record.{Record}
 use Rattle.store.specs.Limits.{arrayLimit, entryLimit, classCounts}
 use Rattle.store.specs.Store.{storeOf}
-use Rattle.store.specs.Written.{pairAt, entryAt, tableOf}
+use Rattle.store.specs.Written.{pairAt, entryAt, tableOf, entriesIn}
 use Rattle.growth.specs.Counts.{Counted, Holds, AtMost, GrownSize}
 use Rattle.growth.proofs.Tally.{index-append, indices-append, index-le}
 use Rattle.growth.proofs.Steps.{counted-then, counted-most}
@@ -42,7 +42,7 @@ module _ (aw ew : List ℕ) (r : Record) (k : Words) where
   ofArray = indices (arrayPairs 0 (tabulate (r .size) (valueAt aw) 0))
 
   abbrev ofEntries : List ℕ
-  ofEntries = indices (tabulate (r .count) (entryAt ew) 0)
+  ofEntries = indices (entriesIn ew (r .count))
 
   module _ {c : List ℕ} (s : Counted ofKey zeros c) where
     pub key-most : AtMost 1 c

@@ -20,7 +20,7 @@ use Rattle.model.specs.Growth.{indices, tally}
 use Rattle.model.proofs.Array.{index-integer}
 use Rattle.store.specs.Limits.{arrayLimit, classCounts}
 use Rattle.store.specs.Written.{pairAt}
-use Rattle.growth.specs.Counts.{Counted, valuesIn}
+use Rattle.growth.specs.Counts.{Counted, countOfValues}
 use Rattle.growth.proofs.Tally.{tally-append, tally-index}
 use Rattle.growth.proofs.Steps.{counted-add}
 use Rattle.growth.proofs.Turns.{firsts, firsts-next}
@@ -54,21 +54,21 @@ range-counted {class} r h =
 
 -- ---- the values from one place on, one after the other
 module _ (ws : List ℕ) (from : ℕ) where
-  pub values-none : valuesIn ws from (from - from) ≡ 0
-  unfolding valuesIn
+  pub values-none : countOfValues ws from (from - from) ≡ 0
+  unfolding countOfValues
   values-none = let z : from - from ≡ 0 = omega arith in rw z
 
-  values-next : (i : ℕ) → from ≤ i → valuesIn ws from (i + 1 - from) ≡ valuesIn ws from (i - from) + cond (isNil (valueAt ws i)) 0 1
-  unfolding valuesIn
+  values-next : (i : ℕ) → from ≤ i → countOfValues ws from (i + 1 - from) ≡ countOfValues ws from (i - from) + cond (isNil (valueAt ws i)) 0 1
+  unfolding countOfValues
   values-next i h =
       let d : i + 1 - from ≡ suc (i - from) = omega arith in
       let e : from + (i - from) ≡ i = omega arith in
       rw (d, e)
 
-  pub values-nil : (i : ℕ) → from ≤ i → isNil (valueAt ws i) ≡ true → valuesIn ws from (i + 1 - from) ≡ valuesIn ws from (i - from)
+  pub values-nil : (i : ℕ) → from ≤ i → isNil (valueAt ws i) ≡ true → countOfValues ws from (i + 1 - from) ≡ countOfValues ws from (i - from)
   values-nil i h e = values-next i h ∙ rw e (omega arith)
 
-  pub values-one : (i : ℕ) → from ≤ i → isNil (valueAt ws i) ≡ false → valuesIn ws from (i + 1 - from) ≡ valuesIn ws from (i - from) + 1
+  pub values-one : (i : ℕ) → from ≤ i → isNil (valueAt ws i) ≡ false → countOfValues ws from (i + 1 - from) ≡ countOfValues ws from (i - from) + 1
   values-one i h e = values-next i h ∙ rw e
 
 -- ---- a range counts, for its class and no other, the values that it has
@@ -92,8 +92,8 @@ module _ (ws : List ℕ) where
       (λ e. rw (e, index-integer i (omega arith)) (tally-index (At i) k lt))
 
   range-tally : (class from d k : ℕ) → k < classCounts → ((i : ℕ) → from ≤ i → i < from + d → (i < arrayLimit) × (size i ≡ class))
-      → tally k (firsts (pairAt ws) (from + d)) ≡ tally k (firsts (pairAt ws) from) + cond (eqb class k) (valuesIn ws from d) 0
-  unfolding valuesIn
+      → tally k (firsts (pairAt ws) (from + d)) ≡ tally k (firsts (pairAt ws) from) + cond (eqb class k) (countOfValues ws from d) 0
+  unfolding countOfValues
   range-tally class from zero k lt h = rw (add-zero from) (omega (arith, either-none (eqb class k)))
   range-tally class from (suc d) k lt h =
       let i : ℕ = from + d in
@@ -103,11 +103,11 @@ module _ (ws : List ℕ) where
       ap (tally k) (firsts-next (pairAt ws) i) ∙ tally-append k (firsts (pairAt ws) i) (indices (pairAt ws i ∷ []))
       in
       let this : tally k (indices (pairAt ws i ∷ [])) ≡ cond (eqb class k) (here i) 0 = rw q at (place-tally i k small lt) in
-      rw e (omega (arith, range-tally class from d k lt (λ j a b. h j a (omega arith)), either-both (eqb class k) (valuesIn ws from d) (here i)))
+      rw e (omega (arith, range-tally class from d k lt (λ j a b. h j a (omega arith)), either-both (eqb class k) (countOfValues ws from d) (here i)))
 
   -- the turn of a class: its range, or what the array has of it
   pub range-turn : {class from to : ℕ} {c c′ : List ℕ} (size end n : ℕ) → Range class from to → from < size → size ≤ arrayLimit → end ≡ min to size
-      → Counted (firsts (pairAt ws) (min from size)) c c′ → n ≡ valuesIn ws from (end - from) → Counted (firsts (pairAt ws) (min to size)) c (set c′ class (getD c′ class 0 + n))
+      → Counted (firsts (pairAt ws) (min from size)) c c′ → n ≡ countOfValues ws from (end - from) → Counted (firsts (pairAt ws) (min to size)) c (set c′ class (getD c′ class 0 + n))
   range-turn {class} {from} {to} size end n r h g e s q =
       let up : from < to = range-up r in
       let start : min from size ≡ from = omega arith in

@@ -13,7 +13,7 @@ use Rattle.key.specs.declared.ArrayIndex.the-variants.{At, Nothing}
 use Rattle.lent.specs.Lent.{valueAt}
 use Rattle.model.specs.Growth.{tally, optimalSize}
 use Rattle.store.specs.Limits.{classCounts}
-use Rattle.store.specs.Store.{Store, lengthsOf, roomOf}
+use Rattle.store.specs.Store.{Store, roomFor}
 use Rattle.store.specs.Written.{tableOf}
 
 -- the class of an index; a number that is no class where there is none
@@ -36,10 +36,10 @@ pub record AtMost (n : ℕ) (c : List ℕ) : Type 0 where
   pub each : (k : ℕ) → getD c k 0 ≤ n
 
 -- how many of the d values from a place on are not Nil
-unfoldable pub valuesIn : List ℕ → ℕ → ℕ → ℕ
-valuesIn ws from zero = 0
-valuesIn ws from (suc d) = valuesIn ws from d + cond (isNil (valueAt ws (from + d))) 0 1
+unfoldable pub countOfValues : List ℕ → ℕ → ℕ → ℕ
+countOfValues ws from zero = 0
+countOfValues ws from (suc d) = countOfValues ws from d + cond (isNil (valueAt ws (from + d))) 0 1
 
 -- the array's size after growth for a new key
 abbrev pub GrownSize : Store → Words → ℕ → Type 0
-GrownSize s k r = r ≡ max (s .sizes .size) (optimalSize (roomOf (lengthsOf (s .slices))) (tableOf s) k)
+GrownSize s k r = r ≡ max (s .sizes .size) (optimalSize (roomFor s) (tableOf s) k)

@@ -14,10 +14,11 @@ ghost use Rattle.model.specs.Table.{arrayPairs};
 ghost use Rattle.model.specs.Growth.{withIndex, indices, countBelow, best, tabulate, grownAllowance};
 ghost use Rattle.store.specs.Limits.{arrayLimit, entryLimit, classCounts};
 ghost use Rattle.store.specs.Store.{storeOf};
-ghost use Rattle.store.specs.Written.{entryAt};
-ghost use Rattle.growth.specs.Counts.{classOf, Counted, Holds, AtMost, valuesIn, GrownSize};
+ghost use Rattle.store.specs.Written.{entriesIn};
+ghost use Rattle.growth.specs.Counts.{classOf, Counted, Holds, AtMost, countOfValues, GrownSize};
 
 // How many candidates each class has. A class is an index's count of significant bits; 2 ^ 16 and up have none of these.
+// The same number stands in store/specs/Limits.antt.
 const CLASSES: usize = 17;
 
 pub type Counts = [u32; CLASSES];
@@ -57,7 +58,7 @@ fn count_key(key: Words, counts: Counts) -> Counts
 // The entries that have a value.
 fn count_entries(entries: &[u64], count: usize, counts: Counts) -> Counts
     requires { ⌜ (4 * count ≤ length (now entries)) × (count ≤ entryLimit) × AtMost (arrayLimit + 1) counts ⌝ }
-    ensures { λ r. ⌜ Counted (indices (tabulate count (entryAt (now (entries .entry))) 0)) counts r ⌝ }
+    ensures { λ r. ⌜ Counted (indices (entriesIn (now (entries .entry)) count)) counts r ⌝ }
 {
     let mut c = counts;
     for i in 0..count {
@@ -74,7 +75,7 @@ fn count_entries(entries: &[u64], count: usize, counts: Counts) -> Counts
 // How many values from one place to another are not Nil.
 fn count_values(array: &[u64], from: usize, to: usize) -> u32
     requires { ⌜ (from ≤ to) × (2 * to ≤ length (now array)) × (to ≤ arrayLimit) ⌝ }
-    ensures { λ r. ⌜ (r ≡ valuesIn (now (array .entry)) from (to - from)) × (r ≤ to - from) ⌝ }
+    ensures { λ r. ⌜ (r ≡ countOfValues (now (array .entry)) from (to - from)) × (r ≤ to - from) ⌝ }
 {
     let mut n = 0u32;
     let mut i = from;
@@ -98,6 +99,7 @@ fn count_array(array: &[u64], size: usize, counts: Counts) -> Counts
     let mut class: usize = 0;
     while from < size {
         let end = if to < size { to } else { size };
+        // The prover does not cover `c = add(..)`: a call's result put in a local that already holds an array.
         let d = add(c, class, count_values(array, from, end));
         c = d;
         from = to;

@@ -1,5 +1,6 @@
 // The calls on words for a host in C or Rust: slices are a pointer and a length, the record is three numbers, an answer is the paper's number,
 // and what else is answered is written through the pointers that the host passes. A refusal writes nothing. Every call is total.
+// bindings/c/amzighrod.h says what each argument is.
 use index::Word;
 use reads::GotWords;
 use reads::Measured;
@@ -16,6 +17,15 @@ ghost use Rattle.lent.specs.Says.{Says};
 ghost use Rattle.store.specs.Store.{slices, storeOf};
 ghost use Rattle.store.specs.Written.{Sound};
 ghost use Rattle.host.specs.Host.{sizes, FreshGives, GetGives, SetGives, NextGives, LengthGives, ReserveGives};
+
+fn words_of(kind: u64, payload: u64) -> Words
+    ensures { λ r. ⌜ r ≡ words kind payload ⌝ }
+{
+    Words {
+        kind: kind,
+        payload: payload,
+    }
+}
 
 fn sizes_of(size: usize, allowance: usize, count: usize) -> Record
     ensures { λ r. ⌜ r ≡ sizes size allowance count ⌝ }
@@ -78,10 +88,7 @@ pub extern "C" fn amzighrod_get(
 ) -> u8
     ensures { λ r. ⌜ GetGives (storeOf (now (array .entry)) (now (entries .entry)) (now (index .entry)) (sizes size allowance count)) (words keykind keypayload) (words (now (kind .entry)) (now (payload .entry))) (words (now (kind .exit)) (now (payload .exit))) r ⌝ }
 {
-    let key = Words {
-        kind: keykind,
-        payload: keypayload,
-    };
+    let key = words_of(keykind, keypayload);
     match reads::get_words(array, entries, index, sizes_of(size, allowance, count), key) {
         GotWords::Value(found) => {
             *kind = found.kind;
@@ -109,14 +116,8 @@ pub extern "C" fn amzighrod_set(
 ) -> u8
     ensures { λ r. ⌜ SetGives (storeOf (now (array .entry)) (now (entries .entry)) (now (index .entry)) (sizes (now (size .entry)) (now (allowance .entry)) (now (count .entry)))) (words keykind keypayload) (words valuekind valuepayload) (words (now (kind .entry)) (now (payload .entry))) (storeOf (now (array .exit)) (now (entries .exit)) (now (index .exit)) (sizes (now (size .exit)) (now (allowance .exit)) (now (count .exit)))) (words (now (kind .exit)) (now (payload .exit))) r ⌝ }
 {
-    let key = Words {
-        kind: keykind,
-        payload: keypayload,
-    };
-    let v = Words {
-        kind: valuekind,
-        payload: valuepayload,
-    };
+    let key = words_of(keykind, keypayload);
+    let v = words_of(valuekind, valuepayload);
     match writes::set_words(
         array,
         entries,
@@ -153,10 +154,7 @@ pub extern "C" fn amzighrod_next(
 ) -> u8
     ensures { λ r. ⌜ NextGives (storeOf (now (array .entry)) (now (entries .entry)) (now (index .entry)) (sizes size allowance count)) (entry (words (now (keykind .entry)) (now (keypayload .entry))) (words (now (kind .entry)) (now (payload .entry)))) (entry (words (now (keykind .exit)) (now (keypayload .exit))) (words (now (kind .exit)) (now (payload .exit)))) r ⌝ }
 {
-    let key = Words {
-        kind: *keykind,
-        payload: *keypayload,
-    };
+    let key = words_of(*keykind, *keypayload);
     match reads::next_words(array, entries, index, sizes_of(size, allowance, count), key) {
         NextWords::Found(k, v) => {
             *keykind = k.kind;

@@ -2,5 +2,5 @@ pub mod Home
 pub mod Used
 pub mod Climb
 pub mod Insert
-pub mod Answers
+pub mod Searches
 pub mod Seats

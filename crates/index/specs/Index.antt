@@ -9,7 +9,7 @@ use lib.ListN.{length, getD, set, replicate}
 use Rattle.lent.specs.Lent.{keyAt}
 use Rattle.index.specs.Home.{homeOf, nextPlace}
 
--- an index word has this many bits. This and `type Word` in src/ are all that names the width
+-- an index word has this many bits; `type Word` in src/ says where the number stands again
 abbrev pub wordBits : ℕ
 wordBits = 16
 

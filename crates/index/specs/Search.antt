@@ -41,10 +41,10 @@ Stands e n (Absent p) = p < n
 Stands e n Full = Unit {0}
 
 -- on a right index: the entry that has the key, or that none has it, with the word where its entry would be put in
-abbrev pub Answers : List ℕ → ℕ → List ℕ → Words → Found → Type 0
-Answers ws e l k (At i) = (i < e) × (keyAt ws i ≡ k)
-Answers ws e l k (Absent p) = ((i : ℕ) → i < e → keyAt ws i ≡ k → ⊥) × (p < length l) × (p ≡ reached isEmpty l (homeOf (length l) k))
-Answers ws e l k Full = ⊥
+abbrev pub Finds : List ℕ → ℕ → List ℕ → Words → Found → Type 0
+Finds ws e l k (At i) = (i < e) × (keyAt ws i ≡ k)
+Finds ws e l k (Absent p) = ((i : ℕ) → i < e → keyAt ws i ≡ k → ⊥) × (p < length l) × (p ≡ reached isEmpty l (homeOf (length l) k))
+Finds ws e l k Full = ⊥
 
 -- a search for the key of entry i finds entry i, and so for each of the first e
 abbrev pub FindsOwn : List ℕ → ℕ → List ℕ → ℕ → Type 0

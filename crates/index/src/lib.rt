@@ -8,9 +8,10 @@ ghost use lib.ListN.{length, set, replicate};
 ghost use Rattle.lent.specs.Says.{Says};
 ghost use Rattle.index.specs.Home.{multiple, mixed, homeOf, nextPlace};
 ghost use Rattle.index.specs.Index.{wordBits, homes, Indexes, seatOf, used, Right};
-ghost use Rattle.index.specs.Search.{searched, Stands, Answers, FindsOwn, AllFound};
+ghost use Rattle.index.specs.Search.{searched, Stands, Finds, FindsOwn, AllFound};
 
-// 0 is empty, else an entry's position + 1. This and `wordBits` in specs/ are all that names the width.
+// 0 is empty, else an entry's position + 1. The width has these names, this and `wordBits`; its number stands again in iter's proof of
+// `Walker::next`, which is made by hand, in the program `checks`, and in what C is told (bindings/).
 pub type Word = u16;
 
 pub enum Found {
@@ -70,7 +71,7 @@ pub fn search(entries: &[u64], count: usize, index: &[Word], key: Words) -> Foun
     requires { ⌜ (4 * count ≤ length (now entries)) × (0 < length (now index)) ⌝ }
     ensures any { λ r. ⌜ r ≡ searched (now (entries .entry)) count (now (index .entry)) key ⌝ }
     ensures safe { λ r. ⌜ Stands count (length (now (index .entry))) r ⌝ }
-    ensures right { λ r. ⌜ (Right (now (entries .entry)) count (now (index .entry)) → Answers (now (entries .entry)) count (now (index .entry)) key r) ⌝ }
+    ensures right { λ r. ⌜ (Right (now (entries .entry)) count (now (index .entry)) → Finds (now (entries .entry)) count (now (index .entry)) key r) ⌝ }
 {
     let n = index.len();
     let mut j = home_of(key, n);

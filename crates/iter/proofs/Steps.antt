@@ -8,9 +8,9 @@ use Rattle.store.specs.Store.{Store}
 use Rattle.store.specs.Shape.{Shaped}
 use Rattle.reads.proofs.Unique.{next-refused}
 use Rattle.table.specs.declared.NextValue.{NextValue}
-use Rattle.table.specs.Values.{nextOf, NextOfValue}
+use Rattle.table.specs.Values.{nextValueOf, NextOfValue}
 use Rattle.iter.specs.declared.Walker.{Walker}
-use Rattle.iter.specs.declared.Walked.the-variants.{End, No}
+use Rattle.iter.specs.declared.WalkerAnswer.the-variants.{End, No}
 use Rattle.iter.specs.declared.Stepped.{Stepped}
 use Rattle.iter.specs.Walker.{walker, stepped, ended, advanced, WalkerSteps}
 
@@ -25,7 +25,7 @@ module _ (s : Store) (w : Walker) where
   pub goes-on : w .done ≡ false → (n : NextValue) → NextOfValue s (w .key) n → (r : Stepped) → r ≡ advanced w n → WalkerSteps s w r
   goes-on d n p r e =
       record {
-        wrong = λ h. e ∙ ap (advanced w) (p .2 ∙ ap nextOf (next-refused s (encoded (w .key)) (p .0) (p .1) h));
+        wrong = λ h. e ∙ ap (advanced w) (p .2 ∙ ap nextValueOf (next-refused s (encoded (w .key)) (p .0) (p .1) h));
         done = λ h y. clash y d;
         goes = λ y. (n, p, e);
       }

@@ -10,14 +10,14 @@ use Rattle.table.specs.declared.NextValue.{NextValue}
 use Rattle.table.specs.declared.NextValue.the-variants.{Found, Last, NotFound, No as NextNo}
 use Rattle.table.specs.Values.{NextOfValue}
 use Rattle.iter.specs.declared.Walker.{Walker}
-use Rattle.iter.specs.declared.Walked.{Walked}
-use Rattle.iter.specs.declared.Walked.the-variants.{Pair, End, No}
+use Rattle.iter.specs.declared.WalkerAnswer.{WalkerAnswer}
+use Rattle.iter.specs.declared.WalkerAnswer.the-variants.{Pair, End, No}
 use Rattle.iter.specs.declared.Stepped.{Stepped}
 
 abbrev pub walker : Value → Bool → Walker
 walker k d = record { key = k; done = d }
 
-abbrev pub stepped : Walker → Walked → Stepped
+abbrev pub stepped : Walker → WalkerAnswer → Stepped
 stepped w a = record { walker = w; answer = a }
 
 -- before the first pair

@@ -13,7 +13,7 @@ pub struct Walker {
     pub done: bool,
 }
 
-pub enum Walked {
+pub enum WalkerAnswer {
     Pair(Value, Value),
     End,
     No(u8),
@@ -21,7 +21,7 @@ pub enum Walked {
 
 pub struct Stepped {
     pub walker: Walker,
-    pub answer: Walked,
+    pub answer: WalkerAnswer,
 }
 
 // A walker at its end.
@@ -33,7 +33,7 @@ fn end(key: Value) -> Stepped
             key: key,
             done: true,
         },
-        answer: Walked::End,
+        answer: WalkerAnswer::End,
     }
 }
 
@@ -54,7 +54,7 @@ pub fn step(
         }
         return Stepped {
             walker: walker,
-            answer: Walked::No(key::WRONG_SHAPE),
+            answer: WalkerAnswer::No(key::WRONG_SHAPE),
         };
     }
     match table::next(array, entries, index, sizes, key) {
@@ -63,13 +63,13 @@ pub fn step(
                 key: k,
                 done: false,
             },
-            answer: Walked::Pair(k, v),
+            answer: WalkerAnswer::Pair(k, v),
         },
         NextValue::Last => end(key),
         NextValue::NotFound => end(key),
         NextValue::No(n) => Stepped {
             walker: walker,
-            answer: Walked::No(n),
+            answer: WalkerAnswer::No(n),
         },
     }
 }
@@ -85,7 +85,13 @@ impl Walker {
         }
     }
 
-    pub fn next(&mut self, array: &[u64], entries: &[u64], index: &[Word], sizes: Record) -> Walked
+    pub fn next(
+        &mut self,
+        array: &[u64],
+        entries: &[u64],
+        index: &[Word],
+        sizes: Record,
+    ) -> WalkerAnswer
         ensures { λ r. ⌜ WalkerSteps (storeOf (now (array .entry)) (now (entries .entry)) (now (index .entry)) sizes) (now (self .entry)) (stepped (now (self .exit)) r) ⌝ }
     {
         let s = step(*self, array, entries, index, sizes);

@@ -1,17 +1,13 @@
 // Performs sequences of calls, each on a fresh store in lent slices, and writes a line for each call: 01's sequences, the limits of lent room,
 // and others where the rules turn. The input is records of five little-endian 64-bit words: the kind of call, and what is passed to it. What
 // the lines must be is worked out apart from this code: tests/limits. Of the input nothing is assumed. Here a call is read off its words and
-// performed; calls.rt has what is called, and lines.rt what is written.
-mod calls;
-mod lines;
-
+// performed, by the crates `calls` and `lines`.
+use calls::Call;
 use index::Word;
 use libc::STDOUT_FILENO;
 use store::Record;
 ghost use Prim.Native.Nat.{_+_, _≤_};
 ghost use lib.ListN.{length};
-
-const FIELDS: usize = 5;
 
 // The kinds of call; those of the trace have its numbers. FRESH begins a sequence.
 const GET: u64 = 1;
@@ -34,113 +30,15 @@ const FILL: u64 = 9;
 
 const WALK: u64 = 10;
 
-// A record of the input: the kind of call, and what is passed to it.
-struct Call {
-    kind: u64,
-    a: u64,
-    b: u64,
-    c: u64,
-    d: u64,
-}
-
-fn call_at(words: &[u64], at: usize) -> Call
-    requires { ⌜ at + 5 ≤ length (now words) ⌝ }
-{
-    Call {
-        kind: words[at],
-        a: words[at + 1],
-        b: words[at + 2],
-        c: words[at + 3],
-        d: words[at + 4],
-    }
-}
-
-// Each call is written down, made and answered.
-fn call_get(array: &[u64], entries: &[u64], index: &[Word], sizes: Record, call: Call) {
-    let key = calls::words_of(call.a, call.b);
-    lines::show_named(b"get", key);
-    lines::show_got(calls::get(array, entries, index, sizes, key));
-}
-
-fn call_next(array: &[u64], entries: &[u64], index: &[Word], sizes: Record, call: Call) {
-    let key = calls::words_of(call.a, call.b);
-    lines::show_named(b"next", key);
-    lines::show_next(calls::next(array, entries, index, sizes, key));
-}
-
-fn call_length(array: &[u64], entries: &[u64], index: &[Word], sizes: Record) {
-    io::write_all(STDOUT_FILENO, b"length");
-    lines::show_length(reads::length(array, entries, index, sizes));
-}
-
-fn call_walk(array: &[u64], entries: &[u64], index: &[Word], sizes: Record, call: Call) {
-    io::write_all(STDOUT_FILENO, b"walk");
-    console::show_number(call.a);
-    lines::show_walk(calls::walk(array, entries, index, sizes, call.a));
-}
-
-fn call_set(
-    array: &mut [u64],
-    entries: &mut [u64],
-    index: &mut [Word],
-    sizes: Record,
-    call: Call,
-) -> Record {
-    let key = calls::words_of(call.a, call.b);
-    let v = calls::words_of(call.c, call.d);
-    lines::show_named(b"set", key);
-    lines::show_value(v);
-    lines::show_set(calls::set(array, entries, index, sizes, key, v), sizes)
-}
-
-fn call_reserve(
-    array: &mut [u64],
-    entries: &mut [u64],
-    index: &mut [Word],
-    sizes: Record,
-    call: Call,
-) -> Record {
-    io::write_all(STDOUT_FILENO, b"reserve");
-    console::show_number(call.a);
-    lines::show_reserved(
-        writes::reserve(array, entries, index, sizes, call.a as usize),
-        sizes,
-    )
-}
-
-fn call_fill(
-    array: &mut [u64],
-    entries: &mut [u64],
-    index: &mut [Word],
-    sizes: Record,
-    call: Call,
-) -> Record {
-    lines::show_named(b"fill", calls::words_of(call.a, call.b));
-    console::show_number(call.c);
-    let filled = calls::fill(array, entries, index, sizes, call.a, call.b, call.c);
-    lines::show_outcome(filled.refusal, filled.sizes)
-}
-
-// The record that the next call is passed.
-fn call_record(call: Call) -> Record {
-    let sizes = Record {
-        size: call.a as usize,
-        allowance: call.b as usize,
-        count: call.c as usize,
-    };
-    io::write_all(STDOUT_FILENO, b"record");
-    lines::show_after(sizes)
-}
-
 // A call that reads.
 fn read(array: &[u64], entries: &[u64], index: &[Word], sizes: Record, call: Call) {
     let kind = call.kind;
     match kind {
-        GET => call_get(array, entries, index, sizes, call),
-        LENGTH => call_length(array, entries, index, sizes),
-        NEXT => call_next(array, entries, index, sizes, call),
+        GET => lines::call_get(array, entries, index, sizes, call),
+        LENGTH => lines::call_length(array, entries, index, sizes),
+        NEXT => lines::call_next(array, entries, index, sizes, call),
         CHECK => lines::show_store(array, entries, index, sizes),
-        WALK => call_walk(array, entries, index, sizes, call),
+        WALK => lines::call_walk(array, entries, index, sizes, call),
         _ => {
             io::write_all(STDOUT_FILENO, b"unknown\n");
         }
@@ -157,10 +55,10 @@ fn perform(
 ) -> Record {
     let kind = call.kind;
     match kind {
-        SET => call_set(array, entries, index, sizes, call),
-        RESERVE => call_reserve(array, entries, index, sizes, call),
-        RECORD => call_record(call),
-        FILL => call_fill(array, entries, index, sizes, call),
+        SET => lines::call_set(array, entries, index, sizes, call),
+        RESERVE => lines::call_reserve(array, entries, index, sizes, call),
+        RECORD => lines::call_record(call),
+        FILL => lines::call_fill(array, entries, index, sizes, call),
         _ => {
             read(array, entries, index, sizes, call);
             sizes
@@ -194,15 +92,15 @@ fn sequence(
     requires { ⌜ from + 5 ≤ length (now words) ⌝ }
     ensures { λ r. ⌜ (from + 5 ≤ r) × (r ≤ length (now (words .entry))) ⌝ }
 {
-    let mut sizes = call_fresh(array, entries, index, call_at(words, from));
-    let mut at = from + FIELDS;
-    while FIELDS <= words.len() - at {
-        let call = call_at(words, at);
+    let mut sizes = call_fresh(array, entries, index, calls::call_at(words, from));
+    let mut at = from + calls::FIELDS;
+    while calls::FIELDS <= words.len() - at {
+        let call = calls::call_at(words, at);
         if call.kind == FRESH {
             return at;
         }
         sizes = perform(array, entries, index, sizes, call);
-        at += FIELDS;
+        at += calls::FIELDS;
     }
     at
 }
@@ -241,24 +139,24 @@ fn sequence_at(
     requires { ⌜ at + 5 ≤ length (now words) ⌝ }
     ensures { λ r. ⌜ (at + 5 ≤ r) × (r ≤ length (now (words .entry))) ⌝ }
 {
-    let call = call_at(words, at);
+    let call = calls::call_at(words, at);
     if call.kind != FRESH {
         io::write_all(STDOUT_FILENO, b"no sequence\n");
-        return at + FIELDS;
+        return at + calls::FIELDS;
     }
     let a = call.a as usize;
     let e = call.b as usize;
     let n = call.c as usize;
     if array.len() < a || entries.len() < e || index.len() < n {
         io::write_all(STDOUT_FILENO, b"too long\n");
-        return at + FIELDS;
+        return at + calls::FIELDS;
     }
     sequence_in(array, entries, index, a, e, n, words, at)
 }
 
 fn run(array: &mut [u64], entries: &mut [u64], index: &mut [Word], words: &[u64]) {
     let mut at = 0usize;
-    while FIELDS <= words.len() - at {
+    while calls::FIELDS <= words.len() - at {
         at = sequence_at(array, entries, index, words, at);
     }
 }
@@ -272,7 +170,7 @@ fn main() {
     let mut entries = console::word_room();
     let mut index = console::index_room();
     run(&mut array, &mut entries, &mut index, &words[0..count]);
-    if count % FIELDS != 0 {
+    if count % calls::FIELDS != 0 {
         console::cut(&words);
     }
 }

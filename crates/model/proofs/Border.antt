@@ -1,16 +1,16 @@
 -- The length that a table answers is a border by the manual (§3.4.7), for every table, and the only one where there is one. Assumes nothing.
-use mathlib.Core.Path.{_≡_, refl, ap, _∙_}
+use mathlib.Core.Path.{_≡_, refl, sym, ap, _∙_}
 use mathlib.Core.Bool.{Bool, true, false, not, _&&_}
 use mathlib.Core.List.{List, [], _∷_}
 use mathlib.Core.Logic.{_⊎_, inl, inr}
 use Prim.Native.Nat.{ℕ, zero, suc, pred, _+_, _-_, _*_, _^_, _/_, _≤_, _<_, min}
-use native.Mathlib.Nat.{not-suc-le-zero}
+use native.Mathlib.Nat.{not-suc-le-zero, le-antisymm}
 use native.Mathlib.Omega.{arith}
 use lib.Dec.{eqb, leb, ltb}
 use lib.ListN.{length, getD}
 use borrow.Author.Tests.{leb-true, leb-false, ltb-true, ltb-false, eqb-true, eq-eqb, not-true, not-false}
 use Rattle.value.specs.Same.{nil, isNil}
-use Rattle.value.proofs.Cases.{caseb, and-left, and-right}
+use Rattle.value.proofs.Cases.{caseb, clash, and-left, and-right}
 use Rattle.value.proofs.Same.{same-refl}
 use Rattle.key.specs.Canonical.{integer, largest}
 use Rattle.key.proofs.Own.{canonical-integer}
@@ -96,15 +96,16 @@ pub border-of : (t : Table) → length (t .array) ≤ 2 ^ 62 → Border t (lengt
 unfolding lengthOf
 border-of t small =
     caseb (leb 1 A && isNil (getD (t .array) (pred A) nil))
-    (λ b. rw b (of-halved (halve-is (nilAt t) 64 0 A (leb-true 1 A (and-left (leb 1 A) (isNil (getD (t .array) (pred A) nil)) b)) (omega arith) (inl refl) (at-end b))))
+    (λ b. rw b (of-halved (omega arith) (halve-is (nilAt t) 64 0 A (leb-true 1 A (and-left (leb 1 A) (isNil (getD (t .array) (pred A) nil)) b)) (omega arith) (inl refl) (at-end b))))
     (λ b. rw b (caseb (eqb (length (t .entries)) 0)
-    (λ c. rw c (of-halved {hi = suc A} (record { lower = full b; upper = past-array t A (le-self A) (none (t .entries) (eqb-true (length (t .entries)) 0 c)); less = le-self (suc A) })))
+    (λ c. rw c (of-halved {hi = suc A} (omega arith) (record { lower = full b; upper = past-array t A (le-self A) (none (t .entries) (eqb-true (length (t .entries)) 0 c)); less = le-self (suc A) })))
     (λ c. rw c (caseb (eqb hi largest && not (nilAt t hi))
     (λ d. rw d (record {
+      range = dd .high;
       lower = inr (ap isNil (get-integer t hi) ∙ not-true (nilAt t hi) (and-right (eqb hi largest) (not (nilAt t hi)) d));
       upper = inl (eqb-true hi largest (and-left (eqb hi largest) (not (nilAt t hi)) d));
     }))
-    (λ d. rw d (of-halved (halve-is (nilAt t) 64 A hi (omega (arith, dd .low)) (omega (arith, dd .high)) (full b) (nil-there d (dd .stops)))))))))
+    (λ d. rw d (of-halved (omega (arith, dd .high)) (halve-is (nilAt t) 64 A hi (omega (arith, dd .low)) (omega (arith, dd .high)) (full b) (nil-there d (dd .stops)))))))))
   where
     A : ℕ
     A = length (t .array)
@@ -143,8 +144,8 @@ border-of t small =
     nil-there d (inl e) = past-hi hi refl e
     nil-there d (inr e) = not-false (nilAt t hi) (rw (eq-eqb hi largest e) at d)
 
-    of-halved : {hi r : ℕ} → Halved (nilAt t) hi r → Border t r
-    of-halved {hi} {r} x = record { lower = low (x .lower); upper = inr (ap isNil (get-integer t (suc r)) ∙ x .upper) }
+    of-halved : {hi r : ℕ} → hi ≤ suc largest → Halved (nilAt t) hi r → Border t r
+    of-halved {hi} {r} h x = record { range = omega (arith, x .less); lower = low (x .lower); upper = inr (ap isNil (get-integer t (suc r)) ∙ x .upper) }
       where
         low : (r ≡ 0) ⊎ (nilAt t r ≡ false) → (r ≡ 0) ⊎ (isNil (getOf t (integer r)) ≡ false)
         low (inl q) = inl q
@@ -157,3 +158,23 @@ border t w = border-of t (in-range w)
 pub only-border : {room : Room} (t : Table) (n : ℕ) → WellFormed room t → OneBorder t → Border t n → lengthOf t ≡ n
 unfolding OneBorder
 only-border t n w one b = one (lengthOf t) n (border t w) b
+
+-- a sequence, whatever other keys it has: values at 1 to n and at no number after them
+pub one-border : (t : Table) (n : ℕ) → n ≤ largest → ((m : ℕ) → 0 < m → m ≤ n → isNil (getOf t (integer m)) ≡ false)
+    → ((m : ℕ) → n < m → m ≤ largest → isNil (getOf t (integer m)) ≡ true) → OneBorder t
+unfolding OneBorder
+one-border t n h filled bare a b p q = at a p ∙ sym (at b q)
+  where
+    not-above : (m : ℕ) → Border t m → n < m → (m ≡ 0) ⊎ (isNil (getOf t (integer m)) ≡ false) → ⊥
+    not-above m p g (inl z) = omega arith
+    not-above m p g (inr e) = clash (bare m g (p .range)) e
+
+    not-below : (m : ℕ) → m < n → (m ≡ largest) ⊎ (isNil (getOf t (integer (suc m))) ≡ true) → ⊥
+    not-below m g (inl z) = omega arith
+    not-below m g (inr e) = clash e (filled (suc m) (omega arith) (omega arith))
+
+    at : (m : ℕ) → Border t m → m ≡ n
+    at m p =
+        le-antisymm
+        (caseb (ltb n m) (λ e. absurd (not-above m p (ltb-true n m e) (p .lower))) (λ e. ltb-false n m e))
+        (caseb (ltb m n) (λ e. absurd (not-below m (ltb-true m n e) (p .upper))) (λ e. ltb-false m n e))

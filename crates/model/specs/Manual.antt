@@ -3,15 +3,17 @@ use mathlib.Core.Path.{_≡_}
 use mathlib.Core.Bool.{true, false, not}
 use mathlib.Core.List.{List, [], _∷_}
 use mathlib.Core.Logic.{_⊎_}
-use Prim.Native.Nat.{ℕ, suc}
+use Prim.Native.Nat.{ℕ, suc, _≤_}
 use Rattle.value.specs.declared.Words.{Words}
 use Rattle.value.specs.Same.{isNil}
 use Rattle.key.specs.Canonical.{integer, largest}
 use Rattle.model.specs.Entries.{Entry, entry, keysOf, distinct, has, find, NextValue, found, last}
 use Rattle.model.specs.Table.{Table, getOf}
 
--- (border == 0 or t[border] ~= nil) and (t[border + 1] == nil or border == math.maxinteger)
+-- (border == 0 or t[border] ~= nil) and (t[border + 1] == nil or border == math.maxinteger), of an integer that is not negative: words past
+-- the largest integer's are the negative ones'
 pub record Border (t : Table) (n : ℕ) : Type 0 where
+  pub range : n ≤ largest
   pub lower : (n ≡ 0) ⊎ (isNil (getOf t (integer n)) ≡ false)
   pub upper : (n ≡ largest) ⊎ (isNil (getOf t (integer (suc n))) ≡ true)
 

@@ -20,23 +20,23 @@ use Rattle.model.proofs.Map.{set-key, set-no-key, Sets, set-sets, reserve-looku
 use Rattle.model.proofs.Kept.{fresh-kept, setOf-kept, reserve-kept}
 use Rattle.model.proofs.Refusals.{reserve-either}
 use Rattle.model.proofs.Next.{lists-one, next-lists}
-use Rattle.original.specs.Original.{Cell, Original, new, Choice, Answered, withMap, originalGet, originalSet, originalReserve, originalNext}
+use Rattle.original.specs.Original.{Cell, Original, new, Choice, OriginalOutcome, withMap, originalGet, originalSet, originalReserve, originalNext}
 use Rattle.original.specs.Runs.{Answer, value, was, ours, told, Roomy, Call, Shuffled, Runs, stopped, got, written, reserved, Kinds, Known, Comparable}
 use Rattle.original.specs.Agreement.{Agree}
 use Rattle.original.proofs.View.{view}
 use Rattle.original.proofs.Order.{shuffled-find}
-use Rattle.original.proofs.Right.{Right, right-new, right-shuffled}
-use Rattle.original.proofs.Sets.{key-known, Steps, original-sets, original-refuses, reserve-right, reserve-view, original-get}
+use Rattle.original.proofs.Right.{OriginalRight, right-new, right-shuffled}
+use Rattle.original.proofs.Sets.{key-known, OriginalSets, original-sets, original-refuses, reserve-right, reserve-view, original-get}
 use Rattle.original.proofs.Walks.{original-lists, same-pairs}
 use Rattle.original.proofs.Lengths.{same-length}
 
 -- two tables after the same calls: each in its own shape, and one map
 record Together (room : Room) (kinds : Kinds) (t : Table) (r : Original) : Type 0 where
   here : WellFormed room t
-  there : Right kinds r
+  there : OriginalRight kinds r
   maps : (j : Words) → lookup t j ≡ lookup (view kinds r) j
 
-abbrev said : Answered → Answer
+abbrev said : OriginalOutcome → Answer
 said a = was (a .refusal) (a .previous)
 
 module _ (room : Room) (kinds : Kinds) (t : Table) (r : Original) (g : Together room kinds t r) where
@@ -75,7 +75,7 @@ module _ (room : Room) (kinds : Kinds) (t : Table) (r : Original) (g : Together 
       known k e = elim (set-sets room t k v (g .here)) [
         | inl m ↦
             let ours : Sets (lookup t) k v (setOf room t key v) = subst (Sets (lookup t) k v) (sym (set-key room t key v k e)) m in
-            let its : Steps kinds (lookup (view kinds r)) k v (originalSet c r key v) = original-sets kinds c r key k v (g .there) e (canonical-own key k e) (key-known kinds key k n e) in (
+            let its : OriginalSets kinds (lookup (view kinds r)) k v (originalSet c r key v) = original-sets kinds c r key k v (g .there) e (canonical-own key k e) (key-known kinds key k n e) in (
               ap₂ was (ours .ok ∙ sym (its .sets .ok)) (ours .previously ∙ g .maps k ∙ sym (its .sets .previously)),
               record {
                 here = setOf-kept room t key v (g .here) dk dv;

@@ -24,10 +24,10 @@ use Rattle.original.specs.Original.{Original, hasCell, findCell, origina
 use Rattle.original.specs.Runs.{Kinds}
 use Rattle.original.specs.Agreement.{ClearedLargest}
 use Rattle.original.proofs.View.{shownCell, cells, view, hasCell-shown, findCell-shown}
-use Rattle.original.proofs.Right.{Right}
+use Rattle.original.proofs.Right.{OriginalRight}
 use Rattle.original.proofs.Sets.{integer-known}
 
-module _ (kinds : Kinds) (r : Original) (s : Right kinds r) where
+module _ (kinds : Kinds) (r : Original) (s : OriginalRight kinds r) where
   -- the tests for Nil and for an entry, on the view
   in-place : (n : ℕ) → 0 < n → n < length (r .array) → isNil (getD (r .array) (pred n) nil) ≡ nilAt (view kinds r) n
   in-place zero h g = absurd (not-suc-le-zero h)
@@ -89,7 +89,7 @@ module _ (kinds : Kinds) (r : Original) (s : Right kinds r) where
 
 -- the border of one table is a border of the other where their gets are the same
 carried-border : (t u : Table) (n : ℕ) → ((j : Words) → lookup t j ≡ lookup u j) → Border u n → Border t n
-carried-border t u n h b = record { lower = low (b .lower); upper = up (b .upper) }
+carried-border t u n h b = record { range = b .range; lower = low (b .lower); upper = up (b .upper) }
   where
     at : (m : ℕ) → isNil (getOf t (integer m)) ≡ isNil (getOf u (integer m))
     at m = ap isNil (get-integer t m ∙ h (integer m) ∙ sym (get-integer u m))
@@ -102,7 +102,7 @@ carried-border t u n h b = record { lower = low (b .lower); upper = up (b .upper
     up (inl p) = inl p
     up (inr p) = inr (at (suc n) ∙ p)
 
-pub same-length : {room : Room} (kinds : Kinds) (t : Table) (r : Original) → WellFormed room t → Right kinds r → ((j : Words) → lookup t j ≡ lookup (view kinds r) j)
+pub same-length : {room : Room} (kinds : Kinds) (t : Table) (r : Original) → WellFormed room t → OriginalRight kinds r → ((j : Words) → lookup t j ≡ lookup (view kinds r) j)
     → OneBorder t → (ClearedLargest r → ⊥) → lengthOf t ≡ originalLength r
 same-length kinds t r w s h one c =
     only-border t (lengthOf (view kinds r)) w one (carried-border t (view kinds r) (lengthOf (view kinds r)) h (border-of (view kinds r) (s .inRange)))

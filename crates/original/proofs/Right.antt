@@ -16,7 +16,7 @@ use Rattle.model.specs.Entries.{Entry, entry, keysOf, distinct, has, keep, live
 use Rattle.model.specs.Table.{below, within}
 use Rattle.model.specs.Growth.{stays}
 use Rattle.model.proofs.Entries.{put-keys, keys-append, distinct-snoc, distinct-keep, each-append, each-keep, each-map, each-key, length-tabulate}
-use Rattle.original.specs.Original.{MapKey, alive, Cell, cell, Original, new, matches, writeCell, hasValue, withArray, withMap, mapIndex, valueAt, resized}
+use Rattle.original.specs.Original.{MapKey, alive, Cell, cell, Original, new, matches, writeCell, hasValue, withArray, withMap, mapIndex, grownValueAt, resized}
 use Rattle.original.specs.Runs.{Kinds, Known, Shuffled}
 use Rattle.original.proofs.View.{shown, shownCell, cells, matches-shown, writeCell-shown, keep-shown, mapIndex-shown}
 use Rattle.original.proofs.Order.{shuffled-each, shuffled-apart}
@@ -31,20 +31,20 @@ pub record Placed (kinds : Kinds) (A : ℕ) (k : Words) : Type 0 where
 abbrev pub Lively : Kinds → Cell → Type 0
 Lively kinds c = hasValue c ≡ true → c .key ≡ alive (shown kinds (c .key))
 
-pub record Right (kinds : Kinds) (r : Original) : Type 0 where
+pub record OriginalRight (kinds : Kinds) (r : Original) : Type 0 where
   pub inRange : length (r .array) ≤ 2 ^ 62
   pub placed : Each (λ c. Placed kinds (length (r .array)) (shown kinds (c .key))) (r .map)
   pub apart : distinct (keysOf (cells kinds (r .map)))
   pub lively : Each (Lively kinds) (r .map)
 
-pub right-new : (kinds : Kinds) → Right kinds new
+pub right-new : (kinds : Kinds) → OriginalRight kinds new
 right-new kinds = record { inRange = omega arith; placed = tt; apart = tt; lively = tt }
 
 each-writeCell : (P : Cell → Type 0) (l : List Cell) (k : Words) (f : MapKey → MapKey) (v : Words) → ((c : Cell) → matches (c .key) k ≡ true → P c → P (cell (f (c .key)) v)) → Each P l → Each P (writeCell l k f v)
 each-writeCell P [] k f v h a = tt
 each-writeCell P (c ∷ cs) k f v h a = caseb (matches (c .key) k) (λ e. rw e (h c e (a .0), a .1)) (λ e. rw e (a .0, each-writeCell P cs k f v h (a .1)))
 
-module _ (kinds : Kinds) (r : Original) (s : Right kinds r) where
+module _ (kinds : Kinds) (r : Original) (s : OriginalRight kinds r) where
   abbrev A : ℕ
   A = length (r .array)
 
@@ -52,13 +52,13 @@ module _ (kinds : Kinds) (r : Original) (s : Right kinds r) where
   pub there : (k : Words) → has (cells kinds (r .map)) k ≡ true → Placed kinds A k
   there k h = each-key (Placed kinds A) (λ x. Placed kinds A (x .key)) (cells kinds (r .map)) (λ x p. p) (each-map _ (λ x. Placed kinds A (x .key)) (shownCell kinds) (r .map) (λ c p. p) (s .placed)) k h
 
-  pub right-array : (i : ℕ) (v : Words) → Right kinds (withArray r (set (r .array) i v))
+  pub right-array : (i : ℕ) (v : Words) → OriginalRight kinds (withArray r (set (r .array) i v))
   right-array i v =
       let len : length (set (r .array) i v) ≡ A = length-set (r .array) i v in
       record { inRange = rw len (s .inRange); placed = rw len (s .placed); apart = s .apart; lively = s .lively }
 
   pub right-write : (k : Words) (f : MapKey → MapKey) (v : Words) → Known kinds k → ((c : MapKey) → shown kinds c ≡ k → shown kinds (f c) ≡ shown kinds c)
-      → ((c : MapKey) → Lively kinds (cell (f c) v)) → Right kinds (withMap r (writeCell (r .map) k f v))
+      → ((c : MapKey) → Lively kinds (cell (f c) v)) → OriginalRight kinds (withMap r (writeCell (r .map) k f v))
   right-write k f v n h g =
       let keys : keysOf (cells kinds (writeCell (r .map) k f v)) ≡ keysOf (cells kinds (r .map)) = ap keysOf (writeCell-shown kinds (r .map) k f v n h) ∙ put-keys (cells kinds (r .map)) k v in
       record {
@@ -68,7 +68,7 @@ module _ (kinds : Kinds) (r : Original) (s : Right kinds r) where
         lively = each-writeCell (Lively kinds) (r .map) k f v (λ c e p. g (c .key)) (s .lively);
       }
 
-  pub right-append : (k v : Words) → Placed kinds A k → has (cells kinds (r .map)) k ≡ false → Right kinds (withMap r (r .map ++ (cell (alive k) v ∷ [])))
+  pub right-append : (k v : Words) → Placed kinds A k → has (cells kinds (r .map)) k ≡ false → OriginalRight kinds (withMap r (r .map ++ (cell (alive k) v ∷ [])))
   right-append k v p n =
       record {
         inRange = s .inRange;
@@ -79,7 +79,7 @@ module _ (kinds : Kinds) (r : Original) (s : Right kinds r) where
 
   -- ---- what is kept of the map
   right-keep : (vs : List Words) (p : Cell → Bool) (q : Entry → Bool) → cells kinds (keep p (r .map)) ≡ keep q (cells kinds (r .map)) → length vs ≤ 2 ^ 62
-      → ((c : Cell) → p c ≡ true → Placed kinds A (shown kinds (c .key)) → within (length vs) (shown kinds (c .key)) ≡ false) → Right kinds (record { array = vs; map = keep p (r .map) })
+      → ((c : Cell) → p c ≡ true → Placed kinds A (shown kinds (c .key)) → within (length vs) (shown kinds (c .key)) ≡ false) → OriginalRight kinds (record { array = vs; map = keep p (r .map) })
   right-keep vs p q m h g =
       record {
         inRange = h;
@@ -91,7 +91,7 @@ module _ (kinds : Kinds) (r : Original) (s : Right kinds r) where
   pub live-cells : cells kinds (keep hasValue (r .map)) ≡ keep live (cells kinds (r .map))
   live-cells = keep-shown kinds hasValue live (r .map) (λ c p. refl) (s .placed)
 
-  pub right-purged : Right kinds (withMap r (keep hasValue (r .map)))
+  pub right-purged : OriginalRight kinds (withMap r (keep hasValue (r .map)))
   right-purged = right-keep (r .array) hasValue live live-cells (s .inRange) (λ c e p. p .outside)
 
   -- ---- growth
@@ -99,15 +99,15 @@ module _ (kinds : Kinds) (r : Original) (s : Right kinds r) where
   unfolding resized stays within
   staying-cells size = keep-shown kinds _ (stays size) (r .map) (λ c p. rw (mapIndex-shown kinds (c .key) (p .canonical))) (s .placed)
 
-  pub right-resized : (size : ℕ) → size ≤ 2 ^ 62 → Right kinds (resized r size)
+  pub right-resized : (size : ℕ) → size ≤ 2 ^ 62 → OriginalRight kinds (resized r size)
   unfolding resized
   right-resized size h =
-      let len : length ((resized r size) .array) ≡ size = length-tabulate size (valueAt r) 0 in
+      let len : length ((resized r size) .array) ≡ size = length-tabulate size (grownValueAt r) 0 in
       right-keep ((resized r size) .array) _ (stays size) (staying-cells size) (rw len h)
       (λ c e p. rw len (unfold within in (rw (sym (mapIndex-shown kinds (c .key) (p .canonical))) (not-true (below size (mapIndex (c .key))) (and-right (hasValue c) (not (below size (mapIndex (c .key)))) e)))))
 
   -- ---- the order of the map
-  pub right-shuffled : {m : List Cell} → Shuffled (r .map) m → Right kinds (withMap r m)
+  pub right-shuffled : {m : List Cell} → Shuffled (r .map) m → OriginalRight kinds (withMap r m)
   right-shuffled f =
       record {
         inRange = s .inRange;

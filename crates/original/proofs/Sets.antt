@@ -24,10 +24,10 @@ use Rattle.model.specs.Calls.{Outcome}
 use Rattle.model.proofs.Entries.{find-absent}
 use Rattle.model.proofs.Array.{index-integer, within-integer, outside-integer, lookup-array, lookup-within, lookup-outside, lookup-absent}
 use Rattle.model.proofs.Map.{Sets, writeArray-lookup, writeEntry-lookup, append-lookup, nil-again, rehashed-lookup, purged-lookup}
-use Rattle.original.specs.Original.{MapKey, alive, dead, cell, Original, killed, revived, hasCell, findCell, writeCell, hasValue, Choice, Answered, answered, withArray, withMap, setReserved, valueAt, resized, grown, originalGet, originalSet, originalReserve}
+use Rattle.original.specs.Original.{MapKey, alive, dead, cell, Original, killed, revived, hasCell, findCell, writeCell, hasValue, Choice, OriginalOutcome, originalOutcome, withArray, withMap, setReserved, grownValueAt, resized, grown, originalGet, originalSet, originalReserve}
 use Rattle.original.specs.Runs.{Kinds, Known}
 use Rattle.original.proofs.View.{shown, shownCell, cells, view, hasCell-shown, findCell-shown, writeCell-shown, killed-shown, revived-shown}
-use Rattle.original.proofs.Right.{Placed, Lively, Right, there, right-array, right-write, right-append, right-purged, right-resized, staying-cells, live-cells}
+use Rattle.original.proofs.Right.{Placed, Lively, OriginalRight, there, right-array, right-write, right-append, right-purged, right-resized, staying-cells, live-cells}
 
 pub integer-known : (kinds : Kinds) (n : ℕ) → Known kinds (integer n)
 integer-known kinds n o = absurd (true≢false (sym o))
@@ -37,22 +37,22 @@ pub key-known : (kinds : Kinds) (key k : Words) → Known kinds key → canonica
 key-known kinds key k n e = elim (key-ways key k e) [ inl a ↦ rw (a .1) (integer-known kinds (a .0)) | inr a ↦ rw (a .0) n ]
 
 module _ (kinds : Kinds) where
-  abbrev pub asOutcome : Answered → Outcome
+  abbrev pub asOutcome : OriginalOutcome → Outcome
   asOutcome a = record { refusal = a .refusal; previous = a .previous; table = view kinds (a .now) }
 
   -- a set of the original's that is done
-  pub record Steps (m : Words → Words) (k v : Words) (a : Answered) : Type 0 where
+  pub record OriginalSets (m : Words → Words) (k v : Words) (a : OriginalOutcome) : Type 0 where
     pub sets : Sets m k v (asOutcome a)
-    pub right : Right kinds (a .now)
+    pub right : OriginalRight kinds (a .now)
 
-  pub view-numbered : (r : Original) → Right kinds r → length (r .array) ≤ largest
+  pub view-numbered : (r : Original) → OriginalRight kinds r → length (r .array) ≤ largest
   view-numbered r s = omega (arith, s .inRange)
 
   -- ---- growth is our growth to that size
   nil-or : (v : Words) → cond (isNil v) nil v ≡ v
   nil-or v = caseb (isNil v) (λ e. rw e (sym (same-eq v nil e))) (λ e. rw e)
 
-  value-shown : (r : Original) (i : ℕ) → Right kinds r → valueAt r i ≡ lookup (view kinds r) (integer (suc i))
+  value-shown : (r : Original) (i : ℕ) → OriginalRight kinds r → grownValueAt r i ≡ lookup (view kinds r) (integer (suc i))
   value-shown r i s =
       let k : Words = integer (suc i) in
       rw (findCell-shown kinds (r .map) k (integer-known kinds (suc i)))
@@ -67,17 +67,17 @@ module _ (kinds : Kinds) where
       ours : (k : Words) → within (length (r .array)) k ≡ true → has (cells kinds (r .map)) k ≡ false
       ours k e = caseb (has (cells kinds (r .map)) k) (λ h. clash e (there kinds r s k h .outside)) (λ h. h)
 
-  view-resized : (r : Original) (size : ℕ) → Right kinds r → length (r .array) < size → view kinds (resized r size) ≡ rehashed (view kinds r) size
+  view-resized : (r : Original) (size : ℕ) → OriginalRight kinds r → length (r .array) < size → view kinds (resized r size) ≡ rehashed (view kinds r) size
   unfolding resized rehashed
   view-resized r size s h =
       let A : max (length (r .array)) size ≡ size = omega arith in
       rw A (λ i. record { array = tabulate size (fun-ext (λ (n : ℕ). value-shown r n s) i) 0; entries = staying-cells kinds r s size i; allowance = 0 })
 
-  pub grown-right : (c : Choice) (r : Original) → Right kinds r → Right kinds (grown c r)
+  pub grown-right : (c : Choice) (r : Original) → OriginalRight kinds r → OriginalRight kinds (grown c r)
   unfolding grown
   grown-right c r s = caseb (ltb (length (r .array)) (c .size)) (λ e. rw e (right-resized kinds r s (c .size) (c .fits))) (λ e. rw e s)
 
-  pub grown-lookup : (c : Choice) (r : Original) (j : Words) → Right kinds r → lookup (view kinds (grown c r)) j ≡ lookup (view kinds r) j
+  pub grown-lookup : (c : Choice) (r : Original) (j : Words) → OriginalRight kinds r → lookup (view kinds (grown c r)) j ≡ lookup (view kinds r) j
   unfolding grown
   grown-lookup c r j s =
       caseb (ltb (length (r .array)) (c .size))
@@ -85,10 +85,10 @@ module _ (kinds : Kinds) where
       (λ e. rw e)
 
   -- ---- the three writes
-  abbrev pub atPlace : Original → Words → Words → Answered
-  atPlace r k v = answered 0 (getD (r .array) (placeOf k) nil) (withArray r (set (r .array) (placeOf k) v))
+  abbrev pub atPlace : Original → Words → Words → OriginalOutcome
+  atPlace r k v = originalOutcome 0 (getD (r .array) (placeOf k) nil) (withArray r (set (r .array) (placeOf k) v))
 
-  at-place : (r : Original) (k v : Words) → Right kinds r → within (length (r .array)) k ≡ true → Steps (lookup (view kinds r)) k v (atPlace r k v)
+  at-place : (r : Original) (k v : Words) → OriginalRight kinds r → within (length (r .array)) k ≡ true → OriginalSets (lookup (view kinds r)) k v (atPlace r k v)
   at-place r k v s b =
       record {
         sets = record { ok = refl; previously = sym (lookup-within (view kinds r) k b); now = λ j. writeArray-lookup (view kinds r) k v j (view-numbered r s) b };
@@ -96,9 +96,9 @@ module _ (kinds : Kinds) where
       }
 
   -- the cell of a key written, its shown key as it is
-  at-cell : (r : Original) (k v : Words) (f : MapKey → MapKey) → Right kinds r → Placed kinds (length (r .array)) k → has (cells kinds (r .map)) k ≡ true
+  at-cell : (r : Original) (k v : Words) (f : MapKey → MapKey) → OriginalRight kinds r → Placed kinds (length (r .array)) k → has (cells kinds (r .map)) k ≡ true
       → ((c : MapKey) → shown kinds c ≡ k → shown kinds (f c) ≡ shown kinds c) → ((c : MapKey) → Lively kinds (cell (f c) v))
-      → Steps (lookup (view kinds r)) k v (answered 0 (findCell (r .map) k) (withMap r (writeCell (r .map) k f v)))
+      → OriginalSets (lookup (view kinds r)) k v (originalOutcome 0 (findCell (r .map) k) (withMap r (writeCell (r .map) k f v)))
   at-cell r k v f s p h g l =
       record {
         sets = record {
@@ -110,7 +110,7 @@ module _ (kinds : Kinds) where
         right = right-write kinds r s k f v (p .known) g l;
       }
 
-  in-map : (r : Original) (k v : Words) → Right kinds r → Placed kinds (length (r .array)) k → Steps (lookup (view kinds r)) k v (setReserved r k v)
+  in-map : (r : Original) (k v : Words) → OriginalRight kinds r → Placed kinds (length (r .array)) k → OriginalSets (lookup (view kinds r)) k v (setReserved r k v)
   unfolding setReserved
   in-map r k v s p =
       let is : hasCell (r .map) k ≡ has (cells kinds (r .map)) k = hasCell-shown kinds (r .map) k (p .known) in
@@ -131,25 +131,25 @@ module _ (kinds : Kinds) where
       awake k v (dead h) e = refl
 
   -- Nil set where the map has no such key
-  absent : (r : Original) (k : Words) → Right kinds r → Placed kinds (length (r .array)) k → has (cells kinds (r .map)) k ≡ false → Steps (lookup (view kinds r)) k nil (answered 0 nil r)
+  absent : (r : Original) (k : Words) → OriginalRight kinds r → Placed kinds (length (r .array)) k → has (cells kinds (r .map)) k ≡ false → OriginalSets (lookup (view kinds r)) k nil (originalOutcome 0 nil r)
   absent r k s p h =
       let z : lookup (view kinds r) k ≡ nil = lookup-absent (view kinds r) k (p .outside) h in
       record { sets = record { ok = refl; previously = sym z; now = λ j. nil-again (lookup (view kinds r)) k nil j (same-refl nil) z }; right = s }
 
   -- ---- every way of set
   -- what is set after growth is set before it
-  moved : (r u : Original) (k v : Words) (a : Answered) → ((j : Words) → lookup (view kinds u) j ≡ lookup (view kinds r) j) → Steps (lookup (view kinds u)) k v a → Steps (lookup (view kinds r)) k v a
+  moved : (r u : Original) (k v : Words) (a : OriginalOutcome) → ((j : Words) → lookup (view kinds u) j ≡ lookup (view kinds r) j) → OriginalSets (lookup (view kinds u)) k v a → OriginalSets (lookup (view kinds r)) k v a
   moved r u k v a g s =
       record {
         sets = record { ok = s .sets .ok; previously = s .sets .previously ∙ g k; now = λ j. s .sets .now j ∙ ap (λ (x : Words). cond (same k j) v x) (g j) };
         right = s .right;
       }
 
-  pub original-sets : (c : Choice) (r : Original) (key k v : Words) → Right kinds r → canonicalKey key ≡ Key k → canonicalKey k ≡ Key k → Known kinds k
-      → Steps (lookup (view kinds r)) k v (originalSet c r key v)
+  pub original-sets : (c : Choice) (r : Original) (key k v : Words) → OriginalRight kinds r → canonicalKey key ≡ Key k → canonicalKey k ≡ Key k → Known kinds k
+      → OriginalSets (lookup (view kinds r)) k v (originalSet c r key v)
   unfolding originalSet within
   original-sets c r key k v s e own n =
-      let g : Right kinds (grown c r) = grown-right c r s in
+      let g : OriginalRight kinds (grown c r) = grown-right c r s in
       let is : hasCell (r .map) k ≡ has (cells kinds (r .map)) k = hasCell-shown kinds (r .map) k n in
       rw (original-index key, original-key key, e)
       (caseb (within (length (r .array)) k)
@@ -165,25 +165,25 @@ module _ (kinds : Kinds) where
       (λ d. rw d (at-place (grown c r) k v g d))
       (λ d. rw d (in-map (grown c r) k v g (record { canonical = own; outside = d; known = n }))))))))))
     where
-      either : (b : Bool) {x y : Answered} → Steps (lookup (view kinds r)) k v x → Steps (lookup (view kinds r)) k v y → Steps (lookup (view kinds r)) k v (cond b x y)
+      either : (b : Bool) {x y : OriginalOutcome} → OriginalSets (lookup (view kinds r)) k v x → OriginalSets (lookup (view kinds r)) k v y → OriginalSets (lookup (view kinds r)) k v (cond b x y)
       either true p q = p
       either false p q = q
 
-  pub original-refuses : (c : Choice) (r : Original) (key v : Words) (n : ℕ) → canonicalKey key ≡ No n → originalSet c r key v ≡ answered n nil r
+  pub original-refuses : (c : Choice) (r : Original) (key v : Words) (n : ℕ) → canonicalKey key ≡ No n → originalSet c r key v ≡ originalOutcome n nil r
   unfolding originalSet
   original-refuses c r key v n e = rw (original-index key, original-key key, e)
 
   -- ---- reserve
-  pub reserve-right : (c : Choice) (r : Original) → Right kinds r → Right kinds (originalReserve c r)
+  pub reserve-right : (c : Choice) (r : Original) → OriginalRight kinds r → OriginalRight kinds (originalReserve c r)
   unfolding originalReserve
   reserve-right c r s = caseb (c .room) (λ e. rw e s) (λ e. rw e (right-purged kinds r s))
 
-  pub reserve-view : (c : Choice) (r : Original) (j : Words) → Right kinds r → lookup (view kinds (originalReserve c r)) j ≡ lookup (view kinds r) j
+  pub reserve-view : (c : Choice) (r : Original) (j : Words) → OriginalRight kinds r → lookup (view kinds (originalReserve c r)) j ≡ lookup (view kinds r) j
   unfolding originalReserve
   reserve-view c r j s = caseb (c .room) (λ e. rw e) (λ e. rw e (purged-lookup (view kinds r) (view kinds (withMap r (keep hasValue (r .map)))) j (s .apart) refl (live-cells kinds r s)))
 
   -- ---- get
-  pub original-get : (r : Original) (key : Words) → Right kinds r → Known kinds key → originalGet r key ≡ getOf (view kinds r) key
+  pub original-get : (r : Original) (key : Words) → OriginalRight kinds r → Known kinds key → originalGet r key ≡ getOf (view kinds r) key
   unfolding originalGet getOf lookup within
   original-get r key s n =
       rw (original-index key, original-key key)

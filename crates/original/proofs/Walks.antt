@@ -23,7 +23,7 @@ use Rattle.original.specs.Original.{Cell, Original, foundAt, firstCell, 
 use Rattle.original.specs.Runs.{Kinds, Known}
 use Rattle.original.specs.Agreement.{SamePairs}
 use Rattle.original.proofs.View.{cells, view, matches-shown}
-use Rattle.original.proofs.Right.{Lively, Right, there}
+use Rattle.original.proofs.Right.{Lively, OriginalRight, there}
 use Rattle.original.proofs.Sets.{integer-known, view-numbered}
 
 not-nil : (k : Words) → canonicalKey k ≡ Key k → eqb (k .kind) 0 ≡ false
@@ -48,11 +48,11 @@ module _ (kinds : Kinds) where
   fromCell-shown (c ∷ cs) k n a = rw (matches-shown kinds (c .key) k n, firstCell-shown cs (a .1), fromCell-shown cs k n (a .1))
 
   -- ---- next, through all pairs of the view
-  original-first : (r : Original) → Right kinds r → originalNext r nil ≡ first (pairs (view kinds r))
+  original-first : (r : Original) → OriginalRight kinds r → originalNext r nil ≡ first (pairs (view kinds r))
   unfolding originalNext canonicalKey pairs
   original-first r s = rw (original-index nil) (firstPair-shown (arrayPairs 0 (r .array)) (r .map) (s .lively))
 
-  original-from : (r : Original) (k : Words) → Right kinds r → canonicalKey k ≡ Key k → Known kinds k → originalNext r k ≡ from (pairs (view kinds r)) k
+  original-from : (r : Original) (k : Words) → OriginalRight kinds r → canonicalKey k ≡ Key k → Known kinds k → originalNext r k ≡ from (pairs (view kinds r)) k
   unfolding originalNext pairs within
   original-from r k s c n =
       rw (original-index k, original-key k, c)
@@ -64,14 +64,14 @@ module _ (kinds : Kinds) where
       ∙ sym (from-append-not (arrayPairs 0 (r .array)) (cells kinds (r .map)) k (has-array-within (r .array) k (view-numbered kinds r s) ∙ b)))))
 
   -- a key of the view is canonical and known
-  pair-key : (r : Original) (k : Words) → Right kinds r → has (pairs (view kinds r)) k ≡ true → (canonicalKey k ≡ Key k) × Known kinds k
+  pair-key : (r : Original) (k : Words) → OriginalRight kinds r → has (pairs (view kinds r)) k ≡ true → (canonicalKey k ≡ Key k) × Known kinds k
   pair-key r k s h =
       key-of-pairs (λ x. (canonicalKey x ≡ Key x) × Known kinds x) (view kinds r) (view-numbered kinds r s) (λ n. (canonical-integer n, integer-known kinds n)) (λ x e. (there kinds r s x e .canonical, there kinds r s x e .known)) k h
 
-  pairs-once : (r : Original) → Right kinds r → distinct (keysOf (pairs (view kinds r)))
+  pairs-once : (r : Original) → OriginalRight kinds r → distinct (keysOf (pairs (view kinds r)))
   pairs-once r s = distinct-pairs (view kinds r) (view-numbered kinds r s) (s .apart) (λ k h. there kinds r s k h .outside)
 
-  pub original-lists : (r : Original) → Right kinds r → Lists (originalNext r) nil (keep live (pairs (view kinds r))) × PairsOf (lookup (view kinds r)) (keep live (pairs (view kinds r)))
+  pub original-lists : (r : Original) → OriginalRight kinds r → Lists (originalNext r) nil (keep live (pairs (view kinds r))) × PairsOf (lookup (view kinds r)) (keep live (pairs (view kinds r)))
   original-lists r s = (
     lists (originalNext r) (pairs (view kinds r)) (pairs-once r s) (λ k h. original-from r k s (pair-key r k s h .0) (pair-key r k s h .1)) (original-first r s),
     live-pairs (lookup (view kinds r)) (pairs (view kinds r)) (pairs-once r s) (λ k. find-pairs (view kinds r) k (view-numbered kinds r s)),

@@ -87,13 +87,13 @@ pub record Choice : Type 0 where
   pub size : ℕ
   pub fits : size ≤ 2 ^ 62
 
-pub record Answered : Type 0 where
+pub record OriginalOutcome : Type 0 where
   pub refusal : ℕ
   pub previous : Words
   pub now : Original
 
-abbrev pub answered : ℕ → Words → Original → Answered
-answered n p r = record { refusal = n; previous = p; now = r }
+abbrev pub originalOutcome : ℕ → Words → Original → OriginalOutcome
+originalOutcome n p r = record { refusal = n; previous = p; now = r }
 
 abbrev pub withArray : Original → List Words → Original
 withArray r l = record { array = l; map = r .map }
@@ -102,11 +102,11 @@ abbrev pub withMap : Original → List Cell → Original
 withMap r m = record { array = r .array; map = m }
 
 -- `set_reserved_value`
-unfoldable pub setReserved : Original → Words → Words → Answered
+unfoldable pub setReserved : Original → Words → Words → OriginalOutcome
 setReserved r k v =
     cond (hasCell (r .map) k)
-    (answered 0 (findCell (r .map) k) (withMap r (writeCell (r .map) k (revived k) v)))
-    (answered 0 nil (withMap r (r .map ++ (cell (alive k) v ∷ []))))
+    (originalOutcome 0 (findCell (r .map) k) (withMap r (writeCell (r .map) k (revived k) v)))
+    (originalOutcome 0 nil (withMap r (r .map ++ (cell (alive k) v ∷ []))))
 
 -- growth of the array, if it grows: Nil to its new length, then each cell with a value and an index below that moved there; the others with a
 -- value stay
@@ -114,30 +114,30 @@ abbrev pub mapIndex : MapKey → ArrayIndex
 mapIndex (alive k) = originalIndex k
 mapIndex (dead h) = Nothing
 
-abbrev pub valueAt : Original → ℕ → Words
-valueAt r i = cond (isNil (findCell (r .map) (integer (suc i)))) (getD (r .array) i nil) (findCell (r .map) (integer (suc i)))
+abbrev pub grownValueAt : Original → ℕ → Words
+grownValueAt r i = cond (isNil (findCell (r .map) (integer (suc i)))) (getD (r .array) i nil) (findCell (r .map) (integer (suc i)))
 
 unfoldable pub resized : Original → ℕ → Original
 resized r size =
     record {
-      array = tabulate size (valueAt r) 0;
+      array = tabulate size (grownValueAt r) 0;
       map = keep (λ c. hasValue c && not (below size (mapIndex (c .key)))) (r .map);
     }
 
 unfoldable pub grown : Choice → Original → Original
 grown c r = cond (ltb (length (r .array)) (c .size)) (resized r (c .size)) r
 
-unfoldable pub originalSet : Choice → Original → Words → Words → Answered
+unfoldable pub originalSet : Choice → Original → Words → Words → OriginalOutcome
 originalSet c r key v =
     cond (below (length (r .array)) (originalIndex key))
-    (answered 0 (getD (r .array) (offset (originalIndex key)) nil) (withArray r (set (r .array) (offset (originalIndex key)) v)))
-    (onKey (originalKey key) (λ n. answered n nil r)
+    (originalOutcome 0 (getD (r .array) (offset (originalIndex key)) nil) (withArray r (set (r .array) (offset (originalIndex key)) v)))
+    (onKey (originalKey key) (λ n. originalOutcome n nil r)
     (λ k. cond (isNil v)
-    (cond (hasCell (r .map) k) (answered 0 (findCell (r .map) k) (withMap r (writeCell (r .map) k killed nil))) (answered 0 nil r))
+    (cond (hasCell (r .map) k) (originalOutcome 0 (findCell (r .map) k) (withMap r (writeCell (r .map) k killed nil))) (originalOutcome 0 nil r))
     (cond (c .room)
     (setReserved r k v)
     (cond (below (length (grown c r .array)) (originalIndex key))
-    (answered 0 (getD (grown c r .array) (offset (originalIndex key)) nil) (withArray (grown c r) (set (grown c r .array) (offset (originalIndex key)) v)))
+    (originalOutcome 0 (getD (grown c r .array) (offset (originalIndex key)) nil) (withArray (grown c r) (set (grown c r .array) (offset (originalIndex key)) v)))
     (setReserved (grown c r) k v)))))
 
 -- ---- reserve_map

@@ -12,7 +12,7 @@ use Rattle.lent.specs.Lent.{valueAt}
 use Rattle.index.specs.declared.Found.{Found}
 use Rattle.index.specs.declared.Found.the-variants.{At, Absent, Full}
 use Rattle.index.specs.Index.{Right}
-use Rattle.index.specs.Search.{Stands, Answers}
+use Rattle.index.specs.Search.{Stands, Finds}
 use Rattle.model.specs.Entries.{Entry, distinct, NextValue, notFound, first, from}
 use Rattle.model.specs.Table.{offset, within, placeOf, arrayPairs, pairs, lookup}
 use Rattle.model.specs.Growth.{tabulate}
@@ -21,9 +21,9 @@ use Rattle.model.proofs.Places.{from-place, from-nowhere, drop-tabulate, array-
 use Rattle.model.proofs.Array.{Inside, inside, place-within, has-array-within, lookup-within, lookup-outside}
 use Rattle.model.proofs.Next.{from-array, from-append-not}
 use Rattle.store.specs.Store.{Store}
-use Rattle.store.specs.Written.{Sound, pairAt, entryAt, tableOf}
+use Rattle.store.specs.Written.{Sound, pairAt, entryAt, tableOf, entriesIn}
 use Rattle.store.proofs.Views.{distinct-read}
-use Rattle.store.proofs.Sound.{sound-clauses, right-index}
+use Rattle.store.proofs.Sound.{right-index, sound-shaped}
 use Rattle.store.proofs.Keys.{valueBy, inside-by, key-by, has-by, find-by}
 
 -- ---- the first pair after an entry, by what a search answers
@@ -32,15 +32,15 @@ afterBy ws e (At i) = first (tabulate (e - (i + 1)) (entryAt ws) (i + 1))
 afterBy ws e (Absent p) = notFound
 afterBy ws e Full = notFound
 
-from-by : (ws : List ℕ) (e : ℕ) (l : List ℕ) (k : Words) → Right ws e l → (r : Found) → Answers ws e l k r
-    → from (tabulate e (entryAt ws) 0) k ≡ afterBy ws e r
+from-by : (ws : List ℕ) (e : ℕ) (l : List ℕ) (k : Words) → Right ws e l → (r : Found) → Finds ws e l k r
+    → from (entriesIn ws e) k ≡ afterBy ws e r
 from-by ws e l k R (At i) a =
     let p : e - suc i ≡ e - (i + 1) = omega arith in
     let q : 0 + suc i ≡ i + 1 = omega arith in
-    from-place (tabulate e (entryAt ws) 0) i k (distinct-read ws e (R .distinct)) (inside-by ws e l k i a) (key-by ws e l k i a)
+    from-place (entriesIn ws e) i k (distinct-read ws e (R .distinct)) (inside-by ws e l k i a) (key-by ws e l k i a)
     ∙ ap first (drop-tabulate (suc i) e (entryAt ws) 0)
     ∙ (λ j. first (tabulate (p j) (entryAt ws) (q j)))
-from-by ws e l k R (Absent p) a = from-nowhere (tabulate e (entryAt ws) 0) k (has-by ws e l k (Absent p) a)
+from-by ws e l k R (Absent p) a = from-nowhere (entriesIn ws e) k (has-by ws e l k (Absent p) a)
 from-by ws e l k R Full a = absurd a
 
 -- on any words, an entry that is answered is there
@@ -75,7 +75,7 @@ module _ (s : Store) (k : Words) where
   array = tabulate A (valueAt aw) 0
 
   abbrev entries : List Entry
-  entries = tabulate E (entryAt ew) 0
+  entries = entriesIn ew E
 
   lenA : length array ≡ A
   lenA = length-tabulate A (valueAt aw) 0
@@ -89,7 +89,7 @@ module _ (s : Store) (k : Words) where
       ∙ tabulate-at A (valueAt aw) nil i (place-in A k i p e)
 
   -- outside it, by what a search says on a right index: r is its answer, and x is that answer taken apart
-  pub lookup-by : within A k ≡ false → Sound s → (r x : Found) → (Right ew E iw → Answers ew E iw k r) → r ≡ x → lookup (tableOf s) k ≡ valueBy ew x
+  pub lookup-by : within A k ≡ false → Sound s → (r x : Found) → (Right ew E iw → Finds ew E iw k r) → r ≡ x → lookup (tableOf s) k ≡ valueBy ew x
   unfolding tableOf
   lookup-by e S r x a p =
       let R = right-index s S in
@@ -107,11 +107,11 @@ module _ (s : Store) (k : Words) where
       ∙ ap (λ (l : List Entry). first (l ++ entries)) (drop-tabulate (suc (r .i)) A (pairAt aw) 0)
       ∙ (λ j. first (tabulate (n j) (pairAt aw) (m j) ++ entries))
 
-  pub next-by : within A k ≡ false → Sound s → (r x : Found) → (Right ew E iw → Answers ew E iw k r) → r ≡ x → from (pairs (tableOf s)) k ≡ afterBy ew E x
+  pub next-by : within A k ≡ false → Sound s → (r x : Found) → (Right ew E iw → Finds ew E iw k r) → r ≡ x → from (pairs (tableOf s)) k ≡ afterBy ew E x
   unfolding tableOf pairs
   next-by e S r x a p =
       let R = right-index s S in
-      let h = sound-clauses s S .shape in
+      let h = sound-shaped s S in
       from-append-not (arrayPairs 0 array) entries k
       (has-array-within array k (omega (arith, lenA, h .sizeFits, h .lengths .arrayMost)) ∙ ap (λ (n : ℕ). within n k) lenA ∙ e)
       ∙ from-by ew E iw k R r (a R)
@@ -119,9 +119,9 @@ module _ (s : Store) (k : Words) where
 
 -- a walk from the start
 pub next-start : (s : Store)
-    → first (pairs (tableOf s)) ≡ first (tabulate (s .sizes .size - 0) (pairAt (s .slices .array)) 0 ++ tabulate (s .sizes .count) (entryAt (s .slices .entries)) 0)
+    → first (pairs (tableOf s)) ≡ first (tabulate (s .sizes .size - 0) (pairAt (s .slices .array)) 0 ++ entriesIn (s .slices .entries) (s .sizes .count))
 unfolding tableOf pairs
 next-start s =
     let p : s .sizes .size ≡ s .sizes .size - 0 = omega arith in
-    ap (λ (l : List Entry). first (l ++ tabulate (s .sizes .count) (entryAt (s .slices .entries)) 0))
+    ap (λ (l : List Entry). first (l ++ entriesIn (s .slices .entries) (s .sizes .count)))
     (array-tabulate (s .sizes .size) (valueAt (s .slices .array)) 0 ∙ ap (λ (n : ℕ). tabulate n (pairAt (s .slices .array)) 0) p)

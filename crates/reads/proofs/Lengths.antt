@@ -17,7 +17,7 @@ use Rattle.model.specs.Growth.{tabulate}
 use Rattle.model.specs.Length.{nilAt, halve, double, lengthOf}
 use Rattle.model.proofs.Entries.{length-tabulate, tabulate-at}
 use Rattle.store.specs.Store.{Store}
-use Rattle.store.specs.Written.{entryAt, tableOf}
+use Rattle.store.specs.Written.{entryAt, tableOf, entriesIn}
 
 module _ (s : Store) where
   abbrev A : ℕ
@@ -30,7 +30,7 @@ module _ (s : Store) where
   array = tabulate A (valueAt (s .slices .array)) 0
 
   abbrev entries : List Entry
-  entries = tabulate E (entryAt (s .slices .entries)) 0
+  entries = entriesIn (s .slices .entries) E
 
   abbrev nils : ℕ → Bool
   nils = nilAt (tableOf s)

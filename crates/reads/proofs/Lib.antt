@@ -2,5 +2,6 @@
 pub mod Keys
 pub mod Walking
 pub mod Halving
+pub mod Rounds
 pub mod Lengths
 pub mod Unique

@@ -3,20 +3,19 @@ use mathlib.Core.Path.{_≡_, sym, ap, _∙_}
 use mathlib.Core.Logic.{_⊎_, inl, inr}
 use Rattle.value.specs.declared.Words.{Words}
 use Rattle.key.specs.Refusals.{wrongShape}
-use Rattle.model.specs.Entries.{NextValue, found, last, notFound}
 use Rattle.model.specs.Table.{getOf, nextOf}
 use Rattle.model.specs.Length.{lengthOf}
 use Rattle.store.specs.Store.{Store}
 use Rattle.store.specs.Shape.{Shaped}
 use Rattle.store.specs.Written.{Sound, tableOf}
-use Rattle.store.proofs.Sound.{sound-clauses}
+use Rattle.store.proofs.Sound.{sound-shaped}
 use Rattle.reads.specs.declared.GotWords.{GotWords}
 use Rattle.reads.specs.declared.GotWords.the-variants.{Value, No as GetNo}
 use Rattle.reads.specs.declared.NextWords.{NextWords}
 use Rattle.reads.specs.declared.NextWords.the-variants.{Found, Last, NotFound, No as NextNo}
 use Rattle.reads.specs.declared.Measured.{Measured}
 use Rattle.reads.specs.declared.Measured.the-variants.{Length, No as LengthNo}
-use Rattle.reads.specs.Reads.{GetAnswers, NextAnswers, LengthAnswers}
+use Rattle.reads.specs.Reads.{GetAnswers, inWords, NextAnswers, LengthAnswers}
 
 -- answers that are x on a sound store, and y where the shape is wrong
 one : {R : Type 0} (s : Store) (P : R → Type 0) (x y : R) → ((r : R) → P r → Sound s → r ≡ x) → ((r : R) → P r → (Shaped s → ⊥) → r ≡ y)
@@ -24,15 +23,9 @@ one : {R : Type 0} (s : Store) (P : R → Type 0) (x y : R) → ((r : R) → P r
 one s P x y done refused r r′ (inl S) a b = done r a S ∙ sym (done r′ b S)
 one s P x y done refused r r′ (inr h) a b = refused r a h ∙ sym (refused r′ b h)
 
--- a step in words
-abbrev pub inWords : NextValue → NextWords
-inWords (found k v) = Found k v
-inWords last = Last
-inWords notFound = NotFound
-
 module _ (s : Store) where
   shaped : Sound s → Shaped s
-  shaped S = sound-clauses s S .shape
+  shaped S = sound-shaped s S
 
   -- ---- get
   pub get-done : (key : Words) (r : GotWords) → GetAnswers s key r → Sound s → r ≡ Value (getOf (tableOf s) key)

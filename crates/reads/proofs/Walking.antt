@@ -1,5 +1,5 @@
 -- A walk of a store's words to the first pair with a value: where its loops are, and what its answer says. Assumes nothing.
-use mathlib.Core.Path.{_≡_, sym, ap, _∙_}
+use mathlib.Core.Path.{_≡_, sym, ap, subst, _∙_}
 use mathlib.Core.Bool.{true, false, cond}
 use mathlib.Core.List.{List, [], _∷_, _++_, append-nil}
 use Prim.Native.Nat.{ℕ, suc, _+_, _-_, _≤_, _<_}
@@ -10,15 +10,14 @@ use Rattle.value.specs.Same.{isNil}
 use Rattle.key.specs.declared.CanonicalKey.the-variants.{Key, No}
 use Rattle.key.specs.Refusals.{keyIsNil}
 use Rattle.key.specs.Canonical.{canonicalKey}
-use Rattle.model.specs.Entries.{Entry, NextValue, found, notFound, first, from}
+use Rattle.model.specs.Entries.{Entry, NextValue, found, last, notFound, first, from}
 use Rattle.model.specs.Table.{Table, pairs, nextOf}
 use Rattle.model.specs.Growth.{tabulate}
 use Rattle.store.specs.Store.{Store}
 use Rattle.store.specs.Shape.{Shaped}
-use Rattle.store.specs.Written.{Sound}
+use Rattle.store.specs.Written.{Sound, tableOf}
 use Rattle.reads.specs.declared.NextWords.{NextWords}
-use Rattle.reads.specs.declared.NextWords.the-variants.{Found, Last, NotFound, No as NextNo}
-use Rattle.reads.specs.Reads.{Refuses, Answers, Steps, orRefused}
+use Rattle.reads.specs.Reads.{inWords, NextAnswers}
 
 -- ---- the loops: from place i on is what is left of n places, where x is asked for
 from-here : {X : Type 0} (f : ℕ → X) (n i : ℕ) → i < n → tabulate (n - i) f i ≡ f i ∷ tabulate (n - (i + 1)) f (i + 1)
@@ -61,16 +60,12 @@ pub next-nan-key : (t : Table) (key : Words) (n : ℕ) → canonicalKey key ≡ 
 unfolding nextOf
 next-nan-key t key n e q = rw (e, ne-eqb n keyIsNil q)
 
--- ---- a step n that was made is the table's step y; and an answer that is no refusal is one of a store of right shape
-pub next-made : (s : Store) (n y : NextValue) (r : NextWords) → (Sound s → y ≡ n) → Steps n r → orRefused r (λ m. ⊥) (Sound s → Steps y r)
-next-made s n y (Found k v) q p = λ S. q S ∙ p
-next-made s n y Last q p = λ S. q S ∙ p
-next-made s n y NotFound q p = λ S. q S ∙ p
-next-made s n y (NextNo m) q p = p
+-- ---- a step n in words is no refusal: where n is the table's, it is what a store of right shape answers
+module _ (s : Store) (key : Words) (h : Shaped s) where
+  step-answers : (n : NextValue) → (Sound s → nextOf (tableOf s) key ≡ n) → NextAnswers s key (inWords n)
+  step-answers (found k v) q = (h, q)
+  step-answers last q = (h, q)
+  step-answers notFound q = (h, q)
 
-pub next-answers : (s : Store) (n y : NextValue) (r : NextWords) → Shaped s → y ≡ n → orRefused r (λ m. ⊥) (Sound s → Steps n r)
-    → orRefused r (Refuses s) (Answers s (Steps y r))
-next-answers s n y (Found k v) h q f = (h, λ S. q ∙ f S)
-next-answers s n y Last h q f = (h, λ S. q ∙ f S)
-next-answers s n y NotFound h q f = (h, λ S. q ∙ f S)
-next-answers s n y (NextNo m) h q f = absurd f
+  pub next-answers : (n : NextValue) (r : NextWords) → r ≡ inWords n → (Sound s → nextOf (tableOf s) key ≡ n) → NextAnswers s key r
+  next-answers n r e q = subst (NextAnswers s key) (sym e) (step-answers n q)

@@ -22,33 +22,29 @@ abbrev pub Refuses : Store → ℕ → Type 0
 Refuses s n = (Shaped s → ⊥) × (n ≡ wrongShape)
 
 -- answered: what is said of the answer holds on a sound store
-abbrev pub Answers : Store → Type 0 → Type 0
-Answers s X = Shaped s × (Sound s → X)
+abbrev pub Accepts : Store → Type 0 → Type 0
+Accepts s X = Shaped s × (Sound s → X)
 
 abbrev pub GetAnswers : Store → Words → GotWords → Type 0
-GetAnswers s key (Value v) = Answers s (v ≡ getOf (tableOf s) key)
+GetAnswers s key (Value v) = Accepts s (v ≡ getOf (tableOf s) key)
 GetAnswers s key (GetNo n) = Refuses s n
 
--- an answer that is this step
-abbrev pub Steps : NextValue → NextWords → Type 0
-Steps n (Found k v) = n ≡ found k v
-Steps n Last = n ≡ last
-Steps n NotFound = n ≡ notFound
-Steps n (NextNo m) = ⊥
+-- a step in words
+abbrev pub inWords : NextValue → NextWords
+inWords (found k v) = Found k v
+inWords last = Last
+inWords notFound = NotFound
 
-abbrev pub orRefused : NextWords → (ℕ → Type 0) → Type 0 → Type 0
-orRefused (Found k v) R X = X
-orRefused Last R X = X
-orRefused NotFound R X = X
-orRefused (NextNo n) R X = R n
-
--- of a canonical key
+-- of a canonical key: on any words a step, and on a sound store the table's
 abbrev pub NextKey : Store → Words → NextWords → Type 0
-NextKey s k r = orRefused r (λ n. ⊥) (Sound s → Steps (from (pairs (tableOf s)) k) r)
+NextKey s k r = (n : NextValue) × (r ≡ inWords n) × (Sound s → from (pairs (tableOf s)) k ≡ n)
 
 abbrev pub NextAnswers : Store → Words → NextWords → Type 0
-NextAnswers s key r = orRefused r (Refuses s) (Answers s (Steps (nextOf (tableOf s) key) r))
+NextAnswers s key (Found k v) = Accepts s (nextOf (tableOf s) key ≡ found k v)
+NextAnswers s key Last = Accepts s (nextOf (tableOf s) key ≡ last)
+NextAnswers s key NotFound = Accepts s (nextOf (tableOf s) key ≡ notFound)
+NextAnswers s key (NextNo n) = Refuses s n
 
 abbrev pub LengthAnswers : Store → Measured → Type 0
-LengthAnswers s (Length n) = Answers s (n ≡ lengthOf (tableOf s))
+LengthAnswers s (Length n) = Accepts s (n ≡ lengthOf (tableOf s))
 LengthAnswers s (LengthNo n) = Refuses s n

@@ -16,9 +16,9 @@ ghost use Rattle.model.specs.Growth.{tabulate};
 ghost use Rattle.model.specs.Length.{nilAt, halve as halved, double as doubled, lengthOf};
 ghost use Rattle.store.specs.Store.{storeOf};
 ghost use Rattle.store.specs.Shape.{Shaped};
-ghost use Rattle.store.specs.Written.{Sound, pairAt, entryAt, tableOf};
+ghost use Rattle.store.specs.Written.{Sound, pairAt, entryAt, tableOf, entriesIn};
 ghost use Rattle.index.specs.Index.{Right};
-ghost use Rattle.reads.specs.Reads.{GetAnswers, Steps, NextKey, NextAnswers, LengthAnswers};
+ghost use Rattle.reads.specs.Reads.{GetAnswers, inWords, NextKey, NextAnswers, LengthAnswers};
 
 pub enum GotWords {
     Value(Words),
@@ -76,7 +76,7 @@ pub fn get_words(
 // The first entry from a position on that has a value.
 fn next_entry(entries: &[u64], count: usize, from: usize) -> NextWords
     requires { ⌜ (4 * count ≤ len (now entries)) × (from ≤ count) ⌝ }
-    ensures { λ r. ⌜ Steps (first (tabulate (count - from) (entryAt (now (entries .entry))) from)) r ⌝ }
+    ensures { λ r. ⌜ r ≡ inWords (first (tabulate (count - from) (entryAt (now (entries .entry))) from)) ⌝ }
 {
     let mut i = from;
     while i < count {
@@ -92,7 +92,7 @@ fn next_entry(entries: &[u64], count: usize, from: usize) -> NextWords
 // The first pair from an array place on that has a value, in the array and then in the entries.
 fn next_pair(array: &[u64], entries: &[u64], sizes: Record, from: usize) -> NextWords
     requires { ⌜ (2 * sizes .size ≤ len (now array)) × (4 * sizes .count ≤ len (now entries)) × (sizes .size < 2 ^ 62) × (from ≤ sizes .size) ⌝ }
-    ensures { λ r. ⌜ Steps (first (tabulate (sizes .size - from) (pairAt (now (array .entry))) from ++ tabulate (sizes .count) (entryAt (now (entries .entry))) 0)) r ⌝ }
+    ensures { λ r. ⌜ r ≡ inWords (first (tabulate (sizes .size - from) (pairAt (now (array .entry))) from ++ entriesIn (now (entries .entry)) (sizes .count))) ⌝ }
 {
     let size = sizes.size;
     let mut i = from;
@@ -170,7 +170,7 @@ fn is_nil_at(array: &[u64], entries: &[u64], index: &[Word], sizes: Record, n: u
 // Whether an Integer has an entry, cleared or not.
 fn has_entry(entries: &[u64], index: &[Word], count: usize, n: u64) -> bool
     requires { ⌜ (4 * count ≤ len (now entries)) × (0 < len (now index)) ⌝ }
-    ensures { λ r. ⌜ (Right (now (entries .entry)) count (now (index .entry)) → r ≡ has (tabulate count (entryAt (now (entries .entry))) 0) (integer n)) ⌝ }
+    ensures { λ r. ⌜ (Right (now (entries .entry)) count (now (index .entry)) → r ≡ has (entriesIn (now (entries .entry)) count) (integer n)) ⌝ }
 {
     let key = Words {
         kind: 2,
@@ -187,7 +187,7 @@ fn has_entry(entries: &[u64], index: &[Word], count: usize, n: u64) -> bool
 fn double(entries: &[u64], index: &[Word], count: usize, from: u64) -> u64
     requires { ⌜ (4 * count ≤ len (now entries)) × (0 < len (now index)) × (0 < from) × (from ≤ largest) ⌝ }
     ensures range { λ r. ⌜ (from ≤ r) × (r ≤ largest) ⌝ }
-    ensures right { λ r. ⌜ (Right (now (entries .entry)) count (now (index .entry)) → r ≡ doubled (λ n. has (tabulate count (entryAt (now (entries .entry))) 0) (integer n)) 64 from) ⌝ }
+    ensures right { λ r. ⌜ (Right (now (entries .entry)) count (now (index .entry)) → r ≡ doubled (λ n. has (entriesIn (now (entries .entry)) count) (integer n)) 64 from) ⌝ }
 {
     let mut max = from;
     while max < LARGEST {

@@ -5,16 +5,23 @@ use Prim.Native.Nat.{ℕ, zero, suc, _+_, _-_, _*_, _/_, _%_, _^_, _≤_, _<_}
 use native.Mathlib.Nat.{le-refl, div-lt-iff-lt-mul, pow-suc}
 use native.Mathlib.Omega.{arith}
 use lib.Dec.{ltb, lit<}
-use lib.ListN.{length, getD, take, drop, length-take, List·getD-eq-default}
+use lib.ListN.{length, getD, take, drop, length-append, length-take, List·getD-eq-default}
 use lib.Seq.{drop-cons, getD-take, getD-drop}
 use borrow.Author.Tests.{ltb-true, ltb-false}
+use Rattle.value.specs.declared.Words.{Words}
 use Rattle.value.proofs.Cases.{caseb}
-use Rattle.records.specs.Bytes.{AllBytes, number, littleEndian}
+use Rattle.records.specs.Bytes.{AllBytes, number, littleEndian, valueBytes, headBytes}
 
 pub length-bytes : (k n : ℕ) → length (littleEndian k n) ≡ k
 unfolding littleEndian
 length-bytes zero n = refl
 length-bytes (suc k) n = ap suc (length-bytes k (n / 256))
+
+pub length-value : (w : Words) → length (valueBytes w) ≡ 9
+length-value w = simp (length-append, length-bytes)
+
+pub length-head : (n k : ℕ) → length (headBytes n k) ≡ 4
+length-head n k = simp (length-append, length-bytes)
 
 pub number-bytes : (k n : ℕ) → n < 256 ^ k → number (littleEndian k n) ≡ n
 unfolding littleEndian number
@@ -38,9 +45,6 @@ number-below zero [] h l = lit< tt
 number-below zero (b ∷ bs) h l = omega arith
 number-below (suc k) [] h l = omega (arith, number-below k [] h (omega arith))
 number-below (suc k) (b ∷ bs) h l = omega (arith, h 0, number-below k bs (λ i. h (suc i)) (omega arith))
-
-pub number-bound : (bs : List ℕ) → AllBytes bs → number bs < 256 ^ length bs
-number-bound bs h = number-below (length bs) bs h (le-refl (length bs))
 
 -- ---- a part of bytes
 pub take-bytes : (n : ℕ) (bs : List ℕ) → AllBytes bs → AllBytes (take n bs)
@@ -68,16 +72,16 @@ read-start bs at count =
     let none : count - count ≡ 0 = omega arith in
     record { inside = le-refl count; is = rw none }
 
-pub read-turn : (bs : List ℕ) (at count n i b : ℕ) → at + count ≤ length bs → 0 < i → b ≡ getD bs (at + (i - 1)) 0 → ReadFrom bs at count n i
-    → ReadFrom bs at count (256 * n + b) (i - 1)
+pub read-turn : (bs : List ℕ) (at count n i : ℕ) → at + count ≤ length bs → 0 < i → ReadFrom bs at count n i
+    → ReadFrom bs at count (getD bs (at + (i - 1)) 0 + 256 * n) (i - 1)
 unfolding number
-read-turn bs at count n i b h p e r =
+read-turn bs at count n i h p r =
     let first : ℕ = at + (i - 1) in
     let many : count - (i - 1) ≡ suc (count - i) = omega (arith, r .inside) in
     let next : suc first ≡ at + i = omega arith in
     record {
       inside = omega (arith, r .inside);
-      is = rw (many, drop-cons bs first 0 (omega (arith, r .inside)), next, ← r .is, ← e) (omega arith);
+      is = rw (many, drop-cons bs first 0 (omega (arith, r .inside)), next, ← r .is);
     }
 
 -- of 8 bytes at most, one of them to come

@@ -8,7 +8,7 @@ use native.Mathlib.Omega.{arith}
 use lib.Dec.{eqb, ltb}
 use lib.ListN.{length, take, drop, length-append, length-drop}
 use lib.Seq.{take-append-le, drop-append-le}
-use borrow.Author.Tests.{eqb-true, eqb-false, leb-true, le-leb, ltb-true, ltb-false}
+use borrow.Author.Tests.{eqb-true, eqb-false, leb-true, ltb-true, ltb-false}
 use Rattle.value.specs.declared.Words.{Words}
 use Rattle.value.specs.Encoding.{decodes, Decodes}
 use Rattle.value.proofs.Cases.{caseb, never, and-left}
@@ -17,8 +17,8 @@ use Rattle.records.specs.declared.Request.the-variants.{Get, Set, Length
 use Rattle.records.specs.declared.Reading.{Reading}
 use Rattle.records.specs.declared.Reading.the-variants.{Request as Asks, Fault}
 use Rattle.records.specs.Bytes.{number, valueIn}
-use Rattle.records.specs.Requests.{recordSize, bodyLength, oneValue, twoValues, bodyReading, requestIn, reading, isWhole, Passed}
-use Rattle.records.proofs.Ways.{kindIn, bodyIn, reads-end, reads-one, reads-short, reads-cut, reads-body, whole-body, body-below, body-above, body-wrong, body-right}
+use Rattle.records.specs.Requests.{recordSize, bodyLength, oneValue, twoValues, bodyReading, requestIn, kindIn, bodyIn, reading, isWhole, ValuesPassed}
+use Rattle.records.proofs.Ways.{reads-end, reads-one, reads-short, reads-cut, reads-body, whole-body, body-below, body-above, body-wrong, body-right}
 use Rattle.records.proofs.Ways.{one-undecodable, one-get, one-next, two-first, two-second, two-set}
 
 -- ---- more input
@@ -143,17 +143,12 @@ formed k bs q r =
 pub request-fits : (bs : List ℕ) (q : Request) → reading bs ≡ Asks q → (4 ≤ recordSize bs) × (recordSize bs ≤ length bs)
 request-fits bs q r = let a = asked bs q r in (a .long, a .fits)
 
-pub request-whole : (bs : List ℕ) (q : Request) → reading bs ≡ Asks q → isWhole bs ≡ true
-request-whole bs q r =
-    let a = asked bs q r in
-    whole-body bs (omega (arith, a .long, a .fits)) (a .long) ∙ le-leb (recordSize bs) (length bs) (a .fits)
-
-passed : (k : ℕ) (bs : List ℕ) (q : Request) → Formed bs k q → Passed q
+passed : (k : ℕ) (bs : List ℕ) (q : Request) → Formed bs k q → ValuesPassed q
 passed k bs q (is-get l d) = d
 passed k bs q (is-set l d e) = (d, e)
 passed k bs q (is-length l) = tt
 passed k bs q (is-next l d) = d
 passed k bs q (is-reserve l) = tt
 
-pub request-decodes : (bs : List ℕ) (q : Request) → reading bs ≡ Asks q → Passed q
+pub request-decodes : (bs : List ℕ) (q : Request) → reading bs ≡ Asks q → ValuesPassed q
 request-decodes bs q r = passed (kindIn bs) (bodyIn bs) q (formed (kindIn bs) (bodyIn bs) q (asked bs q r .body))

@@ -16,9 +16,9 @@ use Rattle.records.specs.declared.Request.{Request}
 use Rattle.records.specs.declared.Request.the-variants.{Get, Set, Length, Next, Reserve}
 use Rattle.records.specs.declared.Reading.the-variants.{Request as Asks}
 use Rattle.records.specs.Bytes.{AllBytes, number, littleEndian, valueBytes, valueIn, headBytes, framed}
-use Rattle.records.specs.Requests.{recordSize, bodyReading, reading, requestBytes, Sendable, InTrace}
-use Rattle.records.proofs.Numbers.{length-bytes, number-bytes, bytes-number, number-below, take-bytes, drop-bytes, number-part}
-use Rattle.records.proofs.Ways.{kindIn, bodyIn, reads-body, body-right, one-get, one-next, two-set}
+use Rattle.records.specs.Requests.{recordSize, kindIn, bodyIn, bodyReading, reading, requestBytes, Sendable, InTrace}
+use Rattle.records.proofs.Numbers.{length-bytes, length-value, length-head, number-bytes, bytes-number, number-below, take-bytes, drop-bytes, number-part}
+use Rattle.records.proofs.Ways.{reads-body, body-right, one-get, one-next, two-set}
 use Rattle.records.proofs.Readings.{asked, Formed, formed, is-get, is-set, is-length, is-next, is-reserve}
 
 -- ---- numbers and values
@@ -83,13 +83,6 @@ pub read-value : (bs : List ℕ) → AllBytes bs → 9 ≤ length bs → valueBy
 read-value bs h l = value-part 0 bs h l
 
 -- ---- a record
-length-value : (w : Words) → length (valueBytes w) ≡ 9
-length-value w =
-    omega (arith, length-append (littleEndian 1 (w .kind)) (littleEndian 8 (w .payload)), length-bytes 1 (w .kind), length-bytes 8 (w .payload))
-
-length-head : (n k : ℕ) → length (headBytes n k) ≡ 4
-length-head n k = omega (arith, length-append (littleEndian 2 (2 + n)) (littleEndian 2 k), length-bytes 2 (2 + n), length-bytes 2 k)
-
 module _ (k : ℕ) (body rest : List ℕ) where
   length-frame : length (framed k body) ≡ 4 + length body
   length-frame = omega (arith, length-append (headBytes (length body) k) body, length-head (length body) k)

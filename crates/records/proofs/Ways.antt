@@ -4,7 +4,7 @@ use mathlib.Core.Bool.{true, false}
 use mathlib.Core.List.{List}
 use Prim.Native.Nat.{ℕ, _-_, _≤_, _<_}
 use lib.Dec.{leb}
-use lib.ListN.{length, take, drop}
+use lib.ListN.{length, take}
 use lib.Seq.{take-all}
 use borrow.Author.Tests.{lt-ltb, le-ltb, le-leb, lt-leb, eq-eqb, ne-eqb}
 use native.Mathlib.Omega.{arith}
@@ -13,14 +13,7 @@ use Rattle.value.specs.Encoding.{decodes}
 use Rattle.records.specs.declared.Request.the-variants.{Get, Set, Length, Next, Reserve}
 use Rattle.records.specs.declared.Reading.the-variants.{End, Request as Asks, Fault}
 use Rattle.records.specs.Bytes.{number, valueIn}
-use Rattle.records.specs.Requests.{cut, unknownKind, wrongLength, undecodable, recordSize, bodyLength, oneValue, twoValues, requestIn, bodyReading, recordReading, reading, isWhole}
-
--- a record's kind and body
-abbrev pub kindIn : List ℕ → ℕ
-kindIn bs = number (take 2 (drop 2 bs))
-
-abbrev pub bodyIn : List ℕ → List ℕ
-bodyIn bs = take (recordSize bs - 4) (drop 4 bs)
+use Rattle.records.specs.Requests.{cut, unknownKind, wrongLength, undecodable, recordSize, bodyLength, oneValue, twoValues, requestIn, bodyReading, kindIn, bodyIn, recordReading, reading, isWhole}
 
 -- ---- the whole input
 module _ (bs : List ℕ) where

@@ -30,6 +30,17 @@ undecodable = 4
 abbrev pub recordSize : List ℕ → ℕ
 recordSize bs = 2 + number (take 2 bs)
 
+-- the most that it can be, since a length has two bytes
+abbrev pub longestRecord : ℕ
+longestRecord = 65537
+
+-- its kind and body
+abbrev pub kindIn : List ℕ → ℕ
+kindIn bs = number (take 2 (drop 2 bs))
+
+abbrev pub bodyIn : List ℕ → List ℕ
+bodyIn bs = take (recordSize bs - 4) (drop 4 bs)
+
 -- what follows the kind, by the kind
 abbrev pub bodyLength : ℕ → ℕ
 bodyLength k = cond (eqb k 1) 9 (cond (eqb k 2) 18 (cond (eqb k 3) 0 (cond (eqb k 4) 9 4)))
@@ -64,7 +75,7 @@ abbrev pub recordReading : List ℕ → Reading
 recordReading bs =
     cond (ltb (recordSize bs) 4) (Fault wrongLength)
     (cond (ltb (length bs) (recordSize bs)) (Fault cut)
-    (bodyReading (number (take 2 (drop 2 bs))) (take (recordSize bs - 4) (drop 4 bs))))
+    (bodyReading (kindIn bs) (bodyIn bs)))
 
 -- input that ends between two records ends the run; exactly 1 byte left (1)
 unfoldable pub reading : List ℕ → Reading
@@ -83,12 +94,12 @@ requestBytes (Next k) = framed 4 (valueBytes k)
 requestBytes (Reserve n) = framed 5 (littleEndian 4 n)
 
 -- the words that are passed are values'
-abbrev pub Passed : Request → Type 0
-Passed (Get k) = Decodes k
-Passed (Set k v) = Decodes k × Decodes v
-Passed Length = Unit {0}
-Passed (Next k) = Decodes k
-Passed (Reserve n) = Unit {0}
+abbrev pub ValuesPassed : Request → Type 0
+ValuesPassed (Get k) = Decodes k
+ValuesPassed (Set k v) = Decodes k × Decodes v
+ValuesPassed Length = Unit {0}
+ValuesPassed (Next k) = Decodes k
+ValuesPassed (Reserve n) = Unit {0}
 
 -- what a trace can hold: a value's words, and a number of 32 bits
 abbrev pub Sendable : Words → Type 0

@@ -31,12 +31,6 @@ const WRONG_LENGTH: u8 = 3;
 
 const UNDECODABLE: u8 = 4;
 
-pub fn wide(byte: u8) -> u64
-    ensures { λ r. ⌜ r ≡ byte ⌝ }
-{
-    byte as u64
-}
-
 // The number in so many bytes, the lowest first.
 pub fn number_at(bytes: &[u8], at: usize, count: usize) -> u64
     requires { ⌜ (at + count ≤ length (now bytes)) × (count ≤ 8) ⌝ }
@@ -46,7 +40,7 @@ pub fn number_at(bytes: &[u8], at: usize, count: usize) -> u64
     let mut i = count;
     while i > 0 {
         i -= 1;
-        n = 256 * n + wide(bytes[at + i]);
+        n = bytes[at + i] as u64 + 256 * n;
     }
     n
 }

@@ -23,10 +23,10 @@ use Rattle.model.specs.WellFormed.{Outside}
 use Rattle.model.proofs.Entries.{find-absent, each-key, length-tabulate, tabulate-at, tabulate-is, tabulate-cong}
 use Rattle.model.proofs.Array.{index-integer, inside, within-integer, outside-integer, lookup-array, lookup-outside}
 use Rattle.store.specs.Store.{Store}
-use Rattle.store.specs.Written.{Sound, tableOf}
+use Rattle.store.specs.Written.{Sound, tableOf, entriesIn}
 use Rattle.store.proofs.Views.{length-array, values-lent}
 use Rattle.store.proofs.Sound.{sound-formed, sound-clauses}
-use Rattle.rehash.specs.Rehash.{entriesIn, sent, moved}
+use Rattle.rehash.specs.Rehash.{sent, moved}
 
 -- ---- values by place, one of them written over
 set-tabulate : (n : ℕ) (f g : ℕ → Words) (i : ℕ) (v : Words) → g i ≡ v → ((j : ℕ) → (j ≡ i → ⊥) → g j ≡ f j)

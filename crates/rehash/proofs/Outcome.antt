@@ -17,10 +17,10 @@ use Rattle.model.specs.Growth.{tabulate, rehashed}
 use Rattle.model.proofs.Entries.{length-tabulate}
 use Rattle.store.specs.declared.Record.{Record}
 use Rattle.store.specs.Store.{slices, Store, store, storeOf, lengthsOf}
-use Rattle.store.specs.Written.{sides, keyHomes, written, Sound, entryAt, tableOf}
+use Rattle.store.specs.Written.{sides, keyHomes, written, Sound, entryAt, tableOf, entriesIn}
 use Rattle.store.proofs.Views.{length-array, sides-tabulate, values-lent, index-read}
 use Rattle.store.proofs.Sound.{sound-clauses}
-use Rattle.rehash.specs.Rehash.{entriesIn, stayingIn, StaysTo, Compacted, zeroed, Rehashes}
+use Rattle.rehash.specs.Rehash.{stayingIn, StaysTo, Compacted, zeroed, Rehashes}
 use Rattle.rehash.proofs.Turns.{entry-same, entries-same, compact-start}
 use Rattle.rehash.proofs.Moved.{keyed, moved-lookup}
 

@@ -19,8 +19,8 @@ use Rattle.model.specs.Table.{within, placeOf}
 use Rattle.model.specs.Growth.{stays}
 use Rattle.model.proofs.Entries.{keep-snoc, keep-all, each-tabulate, tabulate-snoc, tabulate-cong}
 use Rattle.model.proofs.Array.{inside}
-use Rattle.store.specs.Written.{entryAt}
-use Rattle.rehash.specs.Rehash.{entriesIn, stayingIn, StaysTo, Surveyed, sent, moved, Compacted}
+use Rattle.store.specs.Written.{entryAt, entriesIn}
+use Rattle.rehash.specs.Rehash.{stayingIn, StaysTo, Surveyed, sent, moved, Compacted}
 
 -- ---- one entry, by the two tests that code makes: its value is Nil, its key is within the array
 module _ (S : ℕ) (s : Entry) (b c : Bool) (p : isNil (s .value) ≡ b) (q : within S (s .key) ≡ c) where

@@ -8,15 +8,11 @@ use lib.ListN.{length, getD, take, drop, replicate}
 use Rattle.lent.specs.Lent.{putValue}
 use Rattle.model.specs.Entries.{Entry, keep, live}
 use Rattle.model.specs.Table.{within, placeOf}
-use Rattle.model.specs.Growth.{tabulate, stays, rehashed}
+use Rattle.model.specs.Growth.{stays, rehashed}
 use Rattle.store.specs.declared.Record.{Record}
 use Rattle.store.specs.Store.{Store, lengthsOf}
-use Rattle.store.specs.Written.{written, Sound, entryAt, tableOf}
+use Rattle.store.specs.Written.{written, Sound, entryAt, tableOf, entriesIn}
 use Rattle.rehash.specs.declared.Staying.{Staying}
-
--- the first e entries in these words, and those of them that stay beside an array of size S
-abbrev pub entriesIn : List ℕ → ℕ → List Entry
-entriesIn ws e = tabulate e (entryAt ws) 0
 
 abbrev pub stayingIn : List ℕ → ℕ → ℕ → List Entry
 stayingIn ws e S = keep (stays S) (entriesIn ws e)

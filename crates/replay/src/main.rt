@@ -1,15 +1,21 @@
 // Replays stored traces. The arguments are pairs: how to compare, `exactly` or `sets`, and a file of traces with their answers, which
 // tests/replay makes. Of each file a line is written: how many traces it has, and how many are answered otherwise.
+use index::Word;
 use libc::STDOUT_FILENO;
 use store::Made;
 ghost use mathlib.Core.Path.{_≡_};
 ghost use Prim.Native.Nat.{_+_, _<_, _≤_};
 ghost use lib.ListN.{length};
+ghost use Rattle.replay.specs.Numbers.{fileRoom, outputRoom, modulus};
 
-// Room for a file, and for what a trace of 65,536 bytes can be answered (session's `Waits`).
+// The most bytes of a file and of a trace's input that tests/replay makes, and room for the output of such a trace: three times the input and
+// one longest reply, since a reply has at most three times its request's bytes (session's `Waits`). These and the modulus stand in
+// specs/Numbers.antt too.
 const FILE: usize = 393216;
 
-const OUTPUT: usize = 196631;
+const INPUT: usize = 65536;
+
+const OUTPUT: usize = 3 * INPUT + replies::LONGEST;
 
 const NEXT_REPLY: u64 = 260;
 
@@ -30,23 +36,23 @@ struct Tally {
 
 // Each contract gives only the length, which lending a part needs.
 fn file_room() -> [u8; FILE]
-    ensures { λ r. ⌜ 393216 ≡ length r ⌝ }
+    ensures { λ r. ⌜ fileRoom ≡ length r ⌝ }
 {
     [0; FILE]
 }
 
 fn output_room() -> [u8; OUTPUT]
-    ensures { λ r. ⌜ 196631 ≡ length r ⌝ }
+    ensures { λ r. ⌜ outputRoom ≡ length r ⌝ }
 {
     [0; OUTPUT]
 }
 
 fn digest_of(bytes: &[u8]) -> u64
-    ensures { λ r. ⌜ r < 36028797018963913 ⌝ }
+    ensures { λ r. ⌜ r < modulus ⌝ }
 {
     let mut n = 1u64;
     for i in 0..bytes.len() {
-        n = (256 * n + records::wide(bytes[i])) % MODULUS;
+        n = (256 * n + bytes[i] as u64) % MODULUS;
     }
     n
 }
@@ -59,7 +65,7 @@ fn least(a: usize, b: usize) -> usize
 
 // Bytes that are no whole reply count as one of kind 0, up to the end.
 fn cut(end: usize) -> Part
-    ensures { λ r. ⌜ (r .end ≡ end) × (r .digest < 36028797018963913) ⌝ }
+    ensures { λ r. ⌜ (r .end ≡ end) × (r .digest < modulus) ⌝ }
 {
     Part {
         kind: 0,
@@ -71,7 +77,7 @@ fn cut(end: usize) -> Part
 // The reply at a place.
 fn part_at(bytes: &[u8], at: usize) -> Part
     requires { ⌜ at < length (now bytes) ⌝ }
-    ensures { λ r. ⌜ (at < r .end) × (r .end ≤ length (now (bytes .entry))) × (r .digest < 36028797018963913) ⌝ }
+    ensures { λ r. ⌜ (at < r .end) × (r .end ≤ length (now (bytes .entry))) × (r .digest < modulus) ⌝ }
 {
     let left = bytes.len() - at;
     if left < 4 {
@@ -118,7 +124,7 @@ fn same_as_sets(ours: &[u8], stored: &[u8]) -> bool {
 fn is_answered(input: &[u8], stored: &[u8], sets: bool) -> bool {
     let mut array = [0u64; session::ARRAY];
     let mut entries = [0u64; session::ENTRIES];
-    let mut index = [0u16; session::INDEX];
+    let mut index: [Word; session::INDEX] = [0; session::INDEX];
     let mut output = output_room();
     match store::fresh(&mut array, &mut entries, &mut index) {
         Made::Store(sizes) => {

@@ -14,12 +14,6 @@ use Rattle.replies.specs.declared.Reply.{Reply}
 use Rattle.replies.specs.Replies.{Appends, replyBytes}
 
 -- ---- lengths
-pub length-value : (v : Words) → length (valueBytes v) ≡ 9
-length-value v = simp (length-append, length-bytes)
-
-pub length-head : (n k : ℕ) → length (headBytes n k) ≡ 4
-length-head n k = simp (length-append, length-bytes)
-
 pub length-set-body : (n : ℕ) (v : Words) → length (littleEndian 1 n ++ valueBytes v) ≡ 10
 length-set-body n v = simp (length-append, length-bytes)
 

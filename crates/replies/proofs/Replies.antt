@@ -11,6 +11,7 @@ use lib.Seq.{drop-append-seam}
 use Rattle.value.specs.declared.Words.{Words}
 use Rattle.value.specs.Encoding.{words}
 use Rattle.records.specs.Bytes.{number, littleEndian, valueIn}
+use Rattle.records.specs.Requests.{kindIn}
 use Rattle.records.proofs.Numbers.{length-bytes, number-bytes}
 use Rattle.replies.specs.declared.Reply.{Reply}
 use Rattle.replies.specs.declared.Reply.the-variants.{Got, Set, Length, Found, Last, NotFound, Reserved, Fault}
@@ -30,7 +31,7 @@ reply-length (Fault n) = simp (length-append, length-bytes) (omega arith)
 -- the reply that bytes begin with
 replyIn : List ℕ → Reply
 replyIn bs =
-    let kind = number (take 2 (drop 2 bs)) in
+    let kind = kindIn bs in
     let byte = number (take 1 (drop 4 bs)) in
     cond (eqb kind 257) (Got (valueIn 4 bs))
     (cond (eqb kind 258) (Set byte (valueIn 5 bs))

@@ -101,12 +101,12 @@ pub fn write(reply: Reply, output: &mut [u8], at: usize) -> usize
 {
     match reply {
         Reply::Got(v) => put_got(output, at, v),
-        Reply::Set(n, v) => put_set(output, at, records::wide(n), v),
+        Reply::Set(n, v) => put_set(output, at, n as u64, v),
         Reply::Length(n) => put_length(output, at, n),
         Reply::Found(k, v) => put_found(output, at, k, v),
         Reply::Last => put_short(output, at, 260, 1),
         Reply::NotFound => put_short(output, at, 260, 2),
-        Reply::Reserved(n) => put_short(output, at, 261, records::wide(n)),
-        Reply::Fault(n) => put_short(output, at, 511, records::wide(n)),
+        Reply::Reserved(n) => put_short(output, at, 261, n as u64),
+        Reply::Fault(n) => put_short(output, at, 511, n as u64),
     }
 }

@@ -8,9 +8,8 @@ use native.Mathlib.Omega.{arith}
 use lib.ListN.{drop, length-drop}
 use lib.Seq.{drop-append-le, drop-drop}
 use Rattle.model.specs.Table.{Room}
-use Rattle.store.specs.Store.{Store, roomOf}
+use Rattle.store.specs.Store.{Store, roomOf, roomFor}
 use Rattle.store.specs.Written.{Sound, tableOf}
-use Rattle.writes.specs.Writes.{roomFor}
 use Rattle.table.specs.Stays.{Stays}
 use Rattle.records.specs.declared.Request.{Request}
 use Rattle.records.specs.declared.Reading.the-variants.{End, Request as Asks, Fault}

@@ -25,7 +25,8 @@ pub record Long (was now : Slices) : Type 0 where
   pub index : length (now .index) ≡ length (was .index)
 
 -- so much was taken and written, on a store that is now m; the last two fields are what the promises need, the others what the code does
-pub record Underway (s : Store) (input : List ℕ) (last : Bool) (was : List ℕ) (m : Store) (output : List ℕ) (taken made : ℕ) : Type 0 where
+pub record Underway (s : Store) (input : List ℕ) (last : Bool) (was : List ℕ) (m : Store) (output : List ℕ) (taken made : ℕ) (stopped : Bool) : Type 0 where
+  pub goes : stopped ≡ false
   pub slices : Long (s .slices) (m .slices)
   pub long : length output ≡ length was
   pub takes : taken ≤ length input
@@ -33,9 +34,10 @@ pub record Underway (s : Store) (input : List ℕ) (last : Bool) (was : List ℕ
   pub short : Sound s → made ≤ 3 * taken
   pub into : ServedInto s (m .slices) (Further last) input was 0 output (progress (m .sizes) taken made false)
 
-pub underway-start : (s : Store) (input : List ℕ) (last : Bool) (was : List ℕ) → Underway s input last was s was 0 0
+pub underway-start : (s : Store) (input : List ℕ) (last : Bool) (was : List ℕ) → Underway s input last was s was 0 0 false
 underway-start s input last was =
     record {
+      goes = refl;
       slices = record { array = refl; entries = refl; index = refl };
       long = refl;
       takes = zero-le;
@@ -61,7 +63,7 @@ written-fits {out = out} {output = output} {made = made} p =
     omega (arith, p .ends, all, length-take made output)
 
 -- ---- a turn
-module _ {s m : Store} {input was output : List ℕ} {last : Bool} {taken made : ℕ} (u : Underway s input last was m output taken made)
+module _ {s m : Store} {input was output : List ℕ} {last stopped : Bool} {taken made : ℕ} (u : Underway s input last was m output taken made stopped)
     (whole : last ≡ false → isWhole (leftOf taken input) ≡ true) {a : Slices} {after : List ℕ} {r : Progress}
     (p : ServedInto m a (Decided (leftOf taken input)) (leftOf taken input) output made after r) where
   joined : ServedInto s a (Further last) input was 0 after (progress (r .sizes) (taken + r .taken) (r .made) (r .stopped))
@@ -76,9 +78,10 @@ module _ {s m : Store} {input was output : List ℕ} {last : Bool} {taken made :
   turn-takes = joined .2 .takes
 
   pub turn-goes : Paced m made r → r .stopped ≡ false → Long (m .slices) a → length after ≡ length output
-      → Underway s input last was (store a (r .sizes)) after (taken + r .taken) (r .made)
+      → Underway s input last was (store a (r .sizes)) after (taken + r .taken) (r .made) stopped
   turn-goes paced f l o =
       record {
+        goes = u .goes;
         slices =
             record {
               array = l .array ∙ u .slices .array;
@@ -101,15 +104,15 @@ module _ {s m : Store} {input was output : List ℕ} {last : Bool} {taken made :
   turn-stops t = (rw t at joined, λ S room f. clash refl f)
 
 -- ---- the ends
-module _ {s m : Store} {input was output : List ℕ} {last : Bool} {taken made : ℕ} (u : Underway s input last was m output taken made) where
+module _ {s m : Store} {input was output : List ℕ} {last stopped : Bool} {taken made : ℕ} (u : Underway s input last was m output taken made stopped) where
   -- what `serve` promises, the trace going on
   abbrev Ends : Type 0
   Ends =
-      ServedInto s (m .slices) (Further last) input was 0 output (progress (m .sizes) taken made false)
-      × Waits s input last was (progress (m .sizes) taken made false)
+      ServedInto s (m .slices) (Further last) input was 0 output (progress (m .sizes) taken made stopped)
+      × Waits s input last was (progress (m .sizes) taken made stopped)
 
   pub ends-full : length output - made < longest → Ends
-  ends-full h = (u .into, λ S room f. absurd (omega (arith, u .short S, u .takes, u .long)))
+  ends-full h = rw (u .goes) (u .into, λ S room f. absurd (omega (arith, u .short S, u .takes, u .long)))
 
   pub ends-waiting : last ≡ false → isWhole (leftOf taken input) ≡ false → Ends
-  ends-waiting l w = (u .into, λ S room f. (l, sym (ap isWhole (left-is taken input)) ∙ w))
+  ends-waiting l w = rw (u .goes) (u .into, λ S room f. (l, sym (ap isWhole (left-is taken input)) ∙ w))

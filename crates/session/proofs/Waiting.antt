@@ -14,20 +14,21 @@ use Rattle.model.specs.Entries.{NextValue, found, last, notFound}
 use Rattle.model.specs.Table.{Room, Table, nextOf}
 use Rattle.store.specs.Store.{Store}
 use Rattle.store.specs.Written.{Sound}
+use Rattle.reads.specs.Reads.{inWords}
 use Rattle.records.specs.declared.Request.{Request}
 use Rattle.records.specs.declared.Reading.the-variants.{Request as Asks}
 use Rattle.records.specs.Bytes.{AllBytes, valueIn}
-use Rattle.records.specs.Requests.{recordSize, reading, isWhole}
+use Rattle.records.specs.Requests.{recordSize, longestRecord, kindIn, bodyIn, reading, isWhole}
 use Rattle.records.proofs.Numbers.{length-bytes, drop-bytes, number-part}
-use Rattle.records.proofs.Ways.{kindIn, bodyIn, whole-short, whole-body}
+use Rattle.records.proofs.Ways.{whole-short, whole-body}
 use Rattle.records.proofs.Readings.{asked, formed, Formed, is-get, is-set, is-length, is-next, is-reserve}
 use Rattle.replies.specs.Replies.{replyBytes, longest}
-use Rattle.answers.specs.Answers.{stepReply, replyOf}
+use Rattle.answers.specs.Answers.{nextReply, replyOf}
 use Rattle.session.specs.declared.Progress.{Progress}
 use Rattle.session.specs.Served.{Waits}
 
 -- ---- a reply by its request
-short-step : (a : NextValue) → length (replyBytes (stepReply a)) ≤ 39
+short-step : (a : NextValue) → length (replyBytes (nextReply (inWords a))) ≤ 39
 short-step (found k v) = simp (length-append, length-bytes) (omega arith)
 short-step last = simp (length-append, length-bytes) (omega arith)
 short-step notFound = simp (length-append, length-bytes) (omega arith)
@@ -49,7 +50,7 @@ module _ (room : Room) (t : Table) where
 
 -- ---- what is left
 -- input that waits for the rest of its record is shorter than the longest record
-pub cut-short : (bs : List ℕ) → AllBytes bs → isWhole bs ≡ false → length bs < 65537
+pub cut-short : (bs : List ℕ) → AllBytes bs → isWhole bs ≡ false → length bs < longestRecord
 cut-short bs h w =
     caseb (ltb (length bs) 2) (λ t. omega (arith, ltb-true (length bs) 2 t)) λ t.
     let two : 2 ≤ length bs = ltb-false (length bs) 2 t in
@@ -59,6 +60,6 @@ cut-short bs h w =
     omega (arith, cut, number-part 2 0 bs h)
 
 pub leaves-short : {s : Store} (input output : List ℕ) (ended : Bool) (r : Progress) → AllBytes input → Sound s → 3 * length input + longest ≤ length output
-    → Waits s input ended output r → r .stopped ≡ false → length input - r .taken < 65537
+    → Waits s input ended output r → r .stopped ≡ false → length input - r .taken < longestRecord
 leaves-short input output ended r h S room w f =
     omega (arith, length-drop (r .taken) input, cut-short (drop (r .taken) input) (drop-bytes (r .taken) input h) (w S room f .1))

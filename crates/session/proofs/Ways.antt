@@ -7,9 +7,8 @@ use native.Mathlib.Omega.{arith}
 use lib.ListN.{length, take}
 use Rattle.value.proofs.Cases.{clash}
 use Rattle.store.specs.declared.Record.{Record}
-use Rattle.store.specs.Store.{Slices, Store, store}
+use Rattle.store.specs.Store.{Slices, Store, store, roomFor}
 use Rattle.store.specs.Written.{tableOf}
-use Rattle.writes.specs.Writes.{roomFor}
 use Rattle.records.specs.declared.Request.{Request}
 use Rattle.records.specs.declared.Reading.the-variants.{End, Request as Asks, Fault}
 use Rattle.records.specs.Requests.{recordSize, reading}

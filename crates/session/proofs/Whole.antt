@@ -5,9 +5,8 @@ use mathlib.Core.List.{List, _++_, append-nil, append-assoc}
 use Prim.Native.Nat.{ℕ}
 use lib.ListN.{drop}
 use Rattle.model.specs.Table.{Room}
-use Rattle.store.specs.Store.{Store}
+use Rattle.store.specs.Store.{Store, roomFor}
 use Rattle.store.specs.Written.{Sound, tableOf}
-use Rattle.writes.specs.Writes.{roomFor}
 use Rattle.value.proofs.Cases.{clash}
 use Rattle.session.specs.Trace.{traceOf}
 use Rattle.session.specs.Served.{Further, Fed, stops, goes}

@@ -5,9 +5,8 @@ use mathlib.Core.Bool.{Bool, true, false, cond}
 use mathlib.Core.List.{List, [], _++_}
 use Prim.Native.Nat.{ℕ, _+_, _*_, _<_, _≤_}
 use lib.ListN.{length, drop}
-use Rattle.store.specs.Store.{Slices, Store, store}
+use Rattle.store.specs.Store.{Slices, Store, store, roomFor}
 use Rattle.store.specs.Written.{Sound, tableOf}
-use Rattle.writes.specs.Writes.{roomFor}
 use Rattle.table.specs.Stays.{Stays}
 use Rattle.records.specs.Requests.{isWhole}
 use Rattle.replies.specs.Replies.{Appends, longest}

@@ -83,6 +83,7 @@ pub fn serve(
     let mut now = sizes;
     let mut taken = 0;
     let mut made = 0;
+    let mut stopped = false;
     while replies::LONGEST <= output.len() - made {
         if !last {
             if !records::is_whole(&input[taken..]) {
@@ -95,19 +96,15 @@ pub fn serve(
         taken += p.taken;
         made = p.made;
         if p.stopped {
-            return Progress {
-                sizes: now,
-                taken: taken,
-                made: made,
-                stopped: true,
-            };
+            stopped = true;
+            break;
         }
     }
     Progress {
         sizes: now,
         taken: taken,
         made: made,
-        stopped: false,
+        stopped: stopped,
     }
 }
 

@@ -11,7 +11,7 @@ use Rattle.model.proofs.Places.{array-tabulate}
 use Rattle.model.proofs.Kept.{next-each}
 use Rattle.store.specs.Store.{Store}
 use Rattle.store.specs.Written.{Sound, pairAt, entryAt, tableOf}
-use Rattle.store.proofs.Sound.{sound-clauses}
+use Rattle.store.proofs.Sound.{sound-shaped}
 
 abbrev Sized : Entry → Type 0
 Sized e = (e .key .payload < 2 ^ 64) × (e .value .payload < 2 ^ 64)
@@ -20,7 +20,7 @@ module _ {s : Store} (S : Sound s) where
   pairs-sized : Each Sized (pairs (tableOf s))
   unfolding pairs tableOf
   pairs-sized =
-      let h = sound-clauses s S .shape in
+      let h = sound-shaped s S in
       each-append Sized (arrayPairs 0 (tableOf s .array)) (tableOf s .entries)
       (rw (array-tabulate (s .sizes .size) (valueAt (s .slices .array)) 0)
       (each-tabulate Sized (s .sizes .size) (pairAt (s .slices .array)) 0 (λ i a b. (omega (arith, h .sizeFits, h .lengths .arrayMost), S .arrayWords (2 * i + 1)))))

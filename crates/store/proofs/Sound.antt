@@ -18,9 +18,9 @@ use Rattle.model.specs.WellFormed.{Fair, DecodesBoth, Canonical, Outside, WellF
 use Rattle.model.proofs.Entries.{each-tabulate, tabulate-each}
 use Rattle.store.specs.declared.Record.{Record}
 use Rattle.store.specs.Limits.{arrayLimit, classCounts}
-use Rattle.store.specs.Store.{slices, Store, store, Lengths, lengths, lengthsOf, roomOf}
-use Rattle.store.specs.Shape.{RightLengths, Shape}
-use Rattle.store.specs.Written.{sides, keyHomes, written, Sound, entryAt, tableOf}
+use Rattle.store.specs.Store.{slices, Store, store, Lengths, lengths, lengthsOf, roomOf, roomFor}
+use Rattle.store.specs.Shape.{RightLengths, Shape, Shaped}
+use Rattle.store.specs.Written.{sides, keyHomes, written, Sound, entryAt, tableOf, entriesIn}
 use Rattle.store.specs.Clauses.{Clauses}
 use Rattle.store.proofs.Views.{length-sides, each-sides, length-array, length-entries, sides-tabulate, table-written, values-lent, distinct-read, read-distinct, index-read}
 
@@ -74,8 +74,8 @@ module _ (l : Lengths) (t : Table) (h : RightLengths l) (w : WellFormed (roomOf 
 pub sound-table : (s : Store) (S : Sound s) → S .table ≡ tableOf s
 sound-table s S = sym (ap tableOf (S .is) ∙ table-written (lengthsOf (s .slices)) (S .table))
 
-pub sound-formed : (s : Store) → Sound s → WellFormed (roomOf (lengthsOf (s .slices))) (tableOf s)
-sound-formed s S = subst (WellFormed (roomOf (lengthsOf (s .slices)))) (sound-table s S) (S .formed)
+pub sound-formed : (s : Store) → Sound s → WellFormed (roomFor s) (tableOf s)
+sound-formed s S = subst (WellFormed (roomFor s)) (sound-table s S) (S .formed)
 
 pub sound-written : (s : Store) → Sound s → s ≡ written (lengthsOf (s .slices)) (tableOf s)
 sound-written s S = S .is ∙ ap (written (lengthsOf (s .slices))) (sound-table s S)
@@ -101,7 +101,7 @@ module _ (s : Store) where
   array = tabulate A (valueAt aw) 0
 
   abbrev entries : List Entry
-  entries = tabulate E (entryAt ew) 0
+  entries = entriesIn ew E
 
   pub clauses-sound : Clauses s → Sound s
   unfolding tableOf written
@@ -168,6 +168,9 @@ module _ (s : Store) where
 
   pub clauses-right : Clauses s → Right (s .slices .entries) (s .sizes .count) (s .slices .index)
   clauses-right c = record { room = fits (lengthsOf (s .slices)) (s .sizes) (c .shape) .index; distinct = c .distinct; index = c .index }
+
+  pub sound-shaped : Sound s → Shaped s
+  sound-shaped S = sound-clauses S .shape
 
   -- a search of a sound store answers by the entries
   pub right-index : Sound s → Right (s .slices .entries) (s .sizes .count) (s .slices .index)

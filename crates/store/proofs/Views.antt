@@ -18,7 +18,7 @@ use Rattle.model.specs.Growth.{tabulate}
 use Rattle.model.specs.WellFormed.{DecodesBoth}
 use Rattle.model.proofs.Entries.{distinct-apart, apart-distinct, length-tabulate, tabulate-at, tabulate-is, map-tabulate}
 use Rattle.store.specs.Store.{Store, Lengths}
-use Rattle.store.specs.Written.{sides, keyHomes, written, entryAt, tableOf}
+use Rattle.store.specs.Written.{sides, keyHomes, written, entryAt, tableOf, entriesIn}
 
 -- ---- entries as values
 pub length-sides : (es : List Entry) → length (sides es) ≡ 2 * length es
@@ -77,7 +77,7 @@ values-lent ws n h z =
 
 -- ---- the keys of e entries
 module _ (ws : List ℕ) (e : ℕ) where
-  keys : keysOf (tabulate e (entryAt ws) 0) ≡ tabulate e (keyAt ws) 0
+  keys : keysOf (entriesIn ws e) ≡ tabulate e (keyAt ws) 0
   keys = map-tabulate (λ (s : Entry). s .key) e (entryAt ws) 0
 
   key : (i : ℕ) → i < e → getD (tabulate e (keyAt ws) 0) i nil ≡ keyAt ws i
@@ -86,15 +86,15 @@ module _ (ws : List ℕ) (e : ℕ) where
   len : length (tabulate e (keyAt ws) 0) ≡ e
   len = length-tabulate e (keyAt ws) 0
 
-  pub distinct-read : Distinct ws e → distinct (keysOf (tabulate e (entryAt ws) 0))
+  pub distinct-read : Distinct ws e → distinct (keysOf (entriesIn ws e))
   distinct-read d =
       rw keys (apart-distinct (tabulate e (keyAt ws) 0)
       (λ i j a b p. let x : i < e = omega (arith, len) in let y : j < e = omega (arith, len) in d i j x y (sym (key i x) ∙ p ∙ key j y)))
 
-  pub read-distinct : distinct (keysOf (tabulate e (entryAt ws) 0)) → Distinct ws e
+  pub read-distinct : distinct (keysOf (entriesIn ws e)) → Distinct ws e
   read-distinct d i j a b p =
       distinct-apart (tabulate e (keyAt ws) 0) (rw keys at d) i j (omega (arith, len)) (omega (arith, len)) (key i a ∙ p ∙ sym (key j b))
 
-  pub index-read : (n : ℕ) → indexOf n (keyHomes n (keysOf (tabulate e (entryAt ws) 0))) (length (tabulate e (entryAt ws) 0)) ≡ indexWords n ws e
+  pub index-read : (n : ℕ) → indexOf n (keyHomes n (keysOf (entriesIn ws e))) (length (entriesIn ws e)) ≡ indexWords n ws e
   index-read n =
       rw (keys, length-tabulate e (entryAt ws) 0) (index-cong n (keyHomes n (tabulate e (keyAt ws) 0)) (homes n ws) e (λ i h. ap (homeOf n) (key i h)))

@@ -4,8 +4,8 @@ use Prim.Native.Nat.{ℕ, _*_, _<_}
 use Rattle.lent.specs.Lent.{WordSized, AllDecode, ZeroFrom}
 use Rattle.index.specs.Index.{Indexes, Distinct}
 use Rattle.model.specs.WellFormed.{ZeroOrPower, Canonical, Outside}
-use Rattle.store.specs.Store.{Store, lengthsOf}
-use Rattle.store.specs.Shape.{Shape}
+use Rattle.store.specs.Store.{Store}
+use Rattle.store.specs.Shape.{Shaped}
 use Rattle.store.specs.Written.{entryAt}
 
 -- every key of the first E entries is canonical; none has an array index below A
@@ -16,7 +16,7 @@ abbrev pub AllOutside : List ℕ → ℕ → ℕ → Type 0
 AllOutside ws E A = (i : ℕ) → i < E → Outside A (entryAt ws i)
 
 pub record Clauses (s : Store) : Type 0 where
-  pub shape : Shape (lengthsOf (s .slices)) (s .sizes)
+  pub shape : Shaped s
   -- no fault of a store: the slices' type
   pub arrayWords : WordSized (s .slices .array)
   pub entryWords : WordSized (s .slices .entries)

@@ -1,5 +1,5 @@
 -- The limits of lent room (01, 'The store'), and the number of class counts that goes with them. These, the constants in src/ of this
--- crate and of growth, and the width of an index word (index/specs/Index.antt) are all that names them. Assumes nothing.
+-- crate and of growth, and the width of an index word (index/specs/Index.antt) are all that names them, beside the rows of model. Assumes nothing.
 use Prim.Native.Nat.{ℕ}
 
 -- array values

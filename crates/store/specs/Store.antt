@@ -40,3 +40,6 @@ lengthsOf l = lengths (length (l .array)) (length (l .entries)) (length (l .inde
 -- two words an array value, four an entry
 abbrev pub roomOf : Lengths → Room
 roomOf l = record { arrayRoom = l .array / 2; entryRoom = l .entries / 4; classes = classCounts }
+
+abbrev pub roomFor : Store → Room
+roomFor s = roomOf (lengthsOf (s .slices))

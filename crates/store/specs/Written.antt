@@ -15,7 +15,7 @@ use Rattle.model.specs.Table.{Table}
 use Rattle.model.specs.Growth.{tabulate}
 use Rattle.model.specs.WellFormed.{WellFormed}
 use Rattle.store.specs.declared.Record.{Record}
-use Rattle.store.specs.Store.{slices, Store, store, Lengths, lengthsOf, roomOf}
+use Rattle.store.specs.Store.{slices, Store, store, Lengths, lengthsOf, roomFor}
 use Rattle.store.specs.Shape.{RightLengths}
 
 -- an entry is two values: its key, and then its value
@@ -42,7 +42,7 @@ written l t =
 pub record Sound (s : Store) : Type 0 where
   pub lengths : RightLengths (lengthsOf (s .slices))
   pub table : Table
-  pub formed : WellFormed (roomOf (lengthsOf (s .slices))) table
+  pub formed : WellFormed (roomFor s) table
   pub is : s ≡ written (lengthsOf (s .slices)) table
   pub arrayWords : WordSized (s .slices .array)
   pub entryWords : WordSized (s .slices .entries)
@@ -54,11 +54,15 @@ pairAt ws i = entry (integer (suc i)) (valueAt ws i)
 abbrev pub entryAt : List ℕ → ℕ → Entry
 entryAt ws i = entry (valueAt ws (2 * i)) (valueAt ws (2 * i + 1))
 
+-- the first e entries of these entry words
+abbrev pub entriesIn : List ℕ → ℕ → List Entry
+entriesIn ws e = tabulate e (entryAt ws) 0
+
 -- the table that a store is read as
 unfoldable pub tableOf : Store → Table
 tableOf s =
     record {
       array = tabulate (s .sizes .size) (valueAt (s .slices .array)) 0;
-      entries = tabulate (s .sizes .count) (entryAt (s .slices .entries)) 0;
+      entries = entriesIn (s .slices .entries) (s .sizes .count);
       allowance = s .sizes .allowance;
     }

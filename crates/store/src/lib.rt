@@ -12,8 +12,8 @@ ghost use Rattle.key.specs.Canonical.{canonicalKey};
 ghost use Rattle.lent.specs.Says.{Says};
 ghost use Rattle.model.specs.Table.{within, placeOf};
 ghost use Rattle.model.specs.WellFormed.{Power, ZeroOrPower};
-ghost use Rattle.store.specs.Store.{slices, store, lengths};
-ghost use Rattle.store.specs.Shape.{RightLengths, Shape};
+ghost use Rattle.store.specs.Store.{slices, storeOf, lengths};
+ghost use Rattle.store.specs.Shape.{RightLengths, Shape, Shaped};
 ghost use Rattle.store.specs.Written.{Sound};
 ghost use Rattle.store.specs.Clauses.{AllCanonical, AllOutside, Clauses};
 ghost use Rattle.store.specs.Fresh.{FreshMade};
@@ -157,8 +157,8 @@ fn zero_or_power(n: usize) -> bool
 // Whether the clauses after the shape hold, in the order in which a fault finder would name them, but for the repeated key: that one goes by
 // the index.
 fn clauses_hold(array: &[u64], entries: &[u64], index: &[Word], sizes: Record) -> bool
-    requires { ⌜ Shape (lengths (length (now array)) (length (now entries)) (length (now index))) sizes ⌝ }
-    ensures { λ r. ⌜ Says r (Clauses (store (slices (now (array .entry)) (now (entries .entry)) (now (index .entry))) sizes)) ⌝ }
+    requires { ⌜ Shaped (storeOf (now array) (now entries) (now index) sizes) ⌝ }
+    ensures { λ r. ⌜ Says r (Clauses (storeOf (now (array .entry)) (now (entries .entry)) (now (index .entry)) sizes)) ⌝ }
 {
     let size = sizes.size;
     let count = sizes.count;
@@ -188,7 +188,7 @@ fn clauses_hold(array: &[u64], entries: &[u64], index: &[Word], sizes: Record) -
 
 // Whether a store is sound, whatever it holds.
 pub fn check(array: &[u64], entries: &[u64], index: &[Word], sizes: Record) -> bool
-    ensures { λ r. ⌜ Says r (Sound (store (slices (now (array .entry)) (now (entries .entry)) (now (index .entry))) sizes)) ⌝ }
+    ensures { λ r. ⌜ Says r (Sound (storeOf (now (array .entry)) (now (entries .entry)) (now (index .entry)) sizes)) ⌝ }
 {
     if !right_shape(array.len(), entries.len(), index.len(), sizes) {
         return false;

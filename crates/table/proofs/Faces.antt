@@ -12,14 +12,14 @@ use Rattle.writes.specs.Writes.{SetDone}
 use Rattle.table.specs.declared.Got.{Got}
 use Rattle.table.specs.declared.Stored.{Stored}
 use Rattle.table.specs.declared.NextValue.{NextValue}
-use Rattle.table.specs.Values.{gotOf, storedOf, nextOf, GetValue, SetValue, NextOfValue}
+use Rattle.table.specs.Values.{gotOf, storedOf, nextValueOf, GetValue, SetValue, NextOfValue}
 
 -- ---- k and w are the words of the key and of the value
 module _ (s : Store) (key : Value) (k : Words) (e : k ≡ encoded key) where
   pub gets : (a : GotWords) (r : Got) → GetAnswers s k a → r ≡ gotOf a → GetValue s key r
   gets a r p q = (a, subst (λ (x : Words). GetAnswers s x a) e p, q)
 
-  pub nexts : (a : NextWords) (r : NextValue) → NextAnswers s k a → r ≡ nextOf a → NextOfValue s key r
+  pub nexts : (a : NextWords) (r : NextValue) → NextAnswers s k a → r ≡ nextValueOf a → NextOfValue s key r
   nexts a r p q = (a, subst (λ (x : Words). NextAnswers s x a) e p, q)
 
   pub sets : (v : Value) (w : Words) → w ≡ encoded v → (after : Slices) (a : SetWords) (r : Stored) → SetDone s k w after a → r ≡ storedOf a → SetValue s key v after r

@@ -1,3 +1,3 @@
 pub mod Faces
 pub mod Readings
-pub mod Answers
+pub mod Outcomes

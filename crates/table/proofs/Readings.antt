@@ -10,14 +10,14 @@ use Rattle.value.specs.Encoding.{encoded, decoded, valueOf, Typed}
 use Rattle.value.proofs.Cases.{never}
 use Rattle.value.proofs.RoundTrip.{encoded-decodes, value-read, read-stored}
 use Rattle.model.specs.Entries.{found}
-use Rattle.model.specs.Table.{getOf, nextOf as tableNext}
+use Rattle.model.specs.Table.{getOf, nextOf}
 use Rattle.model.specs.Calls.{Outcome}
 use Rattle.model.proofs.Kept.{get-decodes, previous-decodes, next-decodes}
 use Rattle.store.specs.declared.Record.{Record}
-use Rattle.store.specs.Store.{Slices, Store, store}
+use Rattle.store.specs.Store.{Slices, Store, store, roomFor}
 use Rattle.store.specs.Shape.{Shaped}
 use Rattle.store.specs.Written.{Sound, tableOf}
-use Rattle.store.proofs.Sound.{sound-formed, sound-clauses}
+use Rattle.store.proofs.Sound.{sound-formed, sound-shaped}
 use Rattle.store.proofs.Sized.{next-sized}
 use Rattle.reads.specs.declared.NextWords.{NextWords}
 use Rattle.reads.specs.declared.NextWords.the-variants.{Found as FoundWords, Last, NotFound, No as NextNo}
@@ -25,7 +25,7 @@ use Rattle.reads.specs.Reads.{NextAnswers}
 use Rattle.reads.proofs.Unique as reads
 use Rattle.writes.specs.declared.SetWords.{SetWords}
 use Rattle.writes.specs.declared.SetWords.the-variants.{Done as SetDoes, No as SetNo}
-use Rattle.writes.specs.Writes.{Left, roomFor, setOutcome, SetDone}
+use Rattle.writes.specs.Writes.{Left, setOutcome, SetDone}
 use Rattle.writes.proofs.Unique as writes
 use Rattle.table.specs.declared.Got.{Got}
 use Rattle.table.specs.declared.Got.the-variants.{Value as Is}
@@ -33,7 +33,7 @@ use Rattle.table.specs.declared.Stored.{Stored}
 use Rattle.table.specs.declared.Stored.the-variants.{Done}
 use Rattle.table.specs.declared.NextValue.{NextValue}
 use Rattle.table.specs.declared.NextValue.the-variants.{Found}
-use Rattle.table.specs.Values.{gotOf, storedOf, nextOf, GetValue, SetValue, NextOfValue}
+use Rattle.table.specs.Values.{gotOf, storedOf, nextValueOf, GetValue, SetValue, NextOfValue}
 
 -- ---- one answer
 module _ (s : Store) (w : Sound s ⊎ (Shaped s → ⊥)) (key : Value) where
@@ -41,7 +41,7 @@ module _ (s : Store) (w : Sound s ⊎ (Shaped s → ⊥)) (key : Value) where
   get-unique r r′ p q = p .2 ∙ ap gotOf (reads.get-unique s (encoded key) (p .0) (q .0) w (p .1) (q .1)) ∙ sym (q .2)
 
   pub next-unique : (r r′ : NextValue) → NextOfValue s key r → NextOfValue s key r′ → r ≡ r′
-  next-unique r r′ p q = p .2 ∙ ap nextOf (reads.next-unique s (encoded key) (p .0) (q .0) w (p .1) (q .1)) ∙ sym (q .2)
+  next-unique r r′ p q = p .2 ∙ ap nextValueOf (reads.next-unique s (encoded key) (p .0) (q .0) w (p .1) (q .1)) ∙ sym (q .2)
 
   pub set-unique : (v : Value) (a b : Slices) (r t : Stored) → SetValue s key v a r → SetValue s key v b t → (a ≡ b) × (r ≡ t)
   set-unique v a b r t p q =
@@ -56,11 +56,11 @@ module _ {s : Store} (S : Sound s) (key : Value) where
       (valueOf w, p .2 ∙ ap gotOf (reads.get-done s (encoded key) (p .0) (p .1) S), value-read w (get-decodes (roomFor s) (tableOf s) (encoded key) (sound-formed s S)))
 
   pub next-read : (k v : Value) → NextOfValue s key (Found k v)
-      → (a : Words) × (b : Words) × (tableNext (tableOf s) (encoded key) ≡ found a b) × (decoded a ≡ Good k) × (decoded b ≡ Good v)
+      → (a : Words) × (b : Words) × (nextOf (tableOf s) (encoded key) ≡ found a b) × (decoded a ≡ Good k) × (decoded b ≡ Good v)
   next-read k v p = go (p .0) (p .1) (p .2)
     where
-      go : (w : NextWords) → NextAnswers s (encoded key) w → Found k v ≡ nextOf w
-          → (a : Words) × (b : Words) × (tableNext (tableOf s) (encoded key) ≡ found a b) × (decoded a ≡ Good k) × (decoded b ≡ Good v)
+      go : (w : NextWords) → NextAnswers s (encoded key) w → Found k v ≡ nextValueOf w
+          → (a : Words) × (b : Words) × (nextOf (tableOf s) (encoded key) ≡ found a b) × (decoded a ≡ Good k) × (decoded b ≡ Good v)
       go (FoundWords a b) p e =
           let d = next-decodes (roomFor s) (tableOf s) (encoded key) a b (sound-formed s S) (p .1 S) in
           let ka : valueOf a ≡ k = cc in
@@ -75,12 +75,12 @@ module _ {s : Store} (S : Sound s) (key : Value) where
   next-words k v p =
       let x = next-read k v p in
       let l = next-sized S (encoded key) (x .0) (x .1) (x .2) in
-      (sound-clauses s S .shape, λ S. x .2 ∙ ap₂ found (sym (read-stored (x .0) k (l .0) (x .3))) (sym (read-stored (x .1) v (l .1) (x .4))))
+      (sound-shaped s S, λ S. x .2 ∙ ap₂ found (sym (read-stored (x .0) k (l .0) (x .3))) (sym (read-stored (x .1) v (l .1) (x .4))))
 
   pub next-again : (k v : Value) → NextOfValue s key (Found k v) → (valueOf (encoded k) ≡ k) × (valueOf (encoded v) ≡ v)
   next-again k v p =
       let e : Found k v ≡ Found (valueOf (encoded k)) (valueOf (encoded v)) =
-      p .2 ∙ ap nextOf (reads.next-unique s (encoded key) (p .0) (FoundWords (encoded k) (encoded v)) (inl S) (p .1) (next-words k v p)) in
+      p .2 ∙ ap nextValueOf (reads.next-unique s (encoded key) (p .0) (FoundWords (encoded k) (encoded v)) (inl S) (p .1) (next-words k v p)) in
       (cc, cc)
 
 -- ---- a set that was done

@@ -27,11 +27,11 @@ abbrev pub storedOf : SetWords → Stored
 storedOf (SetDoes p r) = Done (valueOf p) r
 storedOf (SetNo n) = StoredNo n
 
-abbrev pub nextOf : NextWords → NextValue
-nextOf (FoundWords k v) = Found (valueOf k) (valueOf v)
-nextOf LastWords = Last
-nextOf NotFoundWords = NotFound
-nextOf (NextNo n) = NextValueNo n
+abbrev pub nextValueOf : NextWords → NextValue
+nextValueOf (FoundWords k v) = Found (valueOf k) (valueOf v)
+nextValueOf LastWords = Last
+nextValueOf NotFoundWords = NotFound
+nextValueOf (NextNo n) = NextValueNo n
 
 abbrev pub GetValue : Store → Value → Got → Type 0
 GetValue s key r = (w : GotWords) × GetAnswers s (encoded key) w × (r ≡ gotOf w)
@@ -40,4 +40,4 @@ abbrev pub SetValue : Store → Value → Value → Slices → Stored → Type 0
 SetValue before key v after r = (w : SetWords) × SetDone before (encoded key) (encoded v) after w × (r ≡ storedOf w)
 
 abbrev pub NextOfValue : Store → Value → NextValue → Type 0
-NextOfValue s key r = (w : NextWords) × NextAnswers s (encoded key) w × (r ≡ nextOf w)
+NextOfValue s key r = (w : NextWords) × NextAnswers s (encoded key) w × (r ≡ nextValueOf w)

@@ -8,30 +8,28 @@ use lib.ListN.{length, take, drop, length-take, length-drop}
 use Rattle.store.specs.Store.{Slices, Store, store}
 use Rattle.store.specs.Written.{Sound}
 use Rattle.records.specs.Bytes.{AllBytes}
+use Rattle.records.specs.Requests.{longestRecord}
 use Rattle.records.proofs.Numbers.{take-bytes}
 use Rattle.replies.specs.Replies.{longest}
 use Rattle.session.specs.declared.Progress.{Progress}
 use Rattle.session.specs.Served.{Further, ServedInto, Waits}
 use Rattle.session.proofs.Waiting.{leaves-short}
-use Rattle.session.proofs.Turns.{Long}
+use Rattle.session.proofs.Turns.{Long, leftOf}
+use Rattle.trace.specs.Rooms.{inputRoom, outputRoom}
 
 -- ---- reading
--- the part that is lent to be read into
-abbrev pub after : ℕ → List ℕ → List ℕ
-after held input = take (length input - held) (drop held input)
-
--- 131072 is the length of the input slice
-module _ (input : List ℕ) (held : ℕ) (l : 131072 ≡ length input) (h : held < 65537) where
+-- `leftOf` is the part that is lent to be read into
+module _ (input : List ℕ) (held : ℕ) (l : inputRoom ≡ length input) (h : held < longestRecord) where
   pub held-fits : held ≤ length input
   held-fits = omega arith
 
-  pub has-room : 0 < length (after held input)
+  pub has-room : 0 < length (leftOf held input)
   has-room = omega (arith, length-take (length input - held) (drop held input), length-drop held input)
 
-  pub read-fits : (got : ℕ) → got ≤ length (after held input) → held + got ≤ length input
+  pub read-fits : (got : ℕ) → got ≤ length (leftOf held input) → held + got ≤ length input
   read-fits got g = omega (arith, length-take (length input - held) (drop held input), length-drop held input)
 
-  pub sum-fits : (got : ℕ) → got ≤ length (after held input) → held + got < 2 ^ 64
+  pub sum-fits : (got : ℕ) → got ≤ length (leftOf held input) → held + got < 2 ^ 64
   sum-fits got g = omega (arith, read-fits got g)
 
 pub as-long : {n l m : ℕ} → n ≤ l → m ≡ l → n ≤ m
@@ -42,9 +40,9 @@ taken-fits taken n bytes h = omega (arith, length-take (n - 0) bytes)
 
 -- ---- what a turn leaves
 module _ {s : Store} {a : Slices} {was output : List ℕ} {ended : Bool} {r : Progress} (bytes : List ℕ) (n : ℕ) where
-  pub leaves : (kept : ℕ) → Sound s → AllBytes bytes → n ≤ length bytes → 131072 ≡ length bytes → 393239 ≡ length was
+  pub leaves : (kept : ℕ) → Sound s → AllBytes bytes → n ≤ length bytes → inputRoom ≡ length bytes → outputRoom ≡ length was
       → ServedInto s a (Further ended) (take (n - 0) bytes) was 0 output r → Waits s (take (n - 0) bytes) ended was r → kept ≡ n - r .taken → r .stopped ≡ false
-      → Sound (store a (r .sizes)) × (kept < 65537)
+      → Sound (store a (r .sizes)) × (kept < longestRecord)
   leaves kept S h f l o p w e g =
       let long : length (take (n - 0) bytes) ≡ n = omega (arith, length-take (n - 0) bytes) in
       let room : 3 * length (take (n - 0) bytes) + longest ≤ length was = omega arith in
@@ -54,10 +52,7 @@ module _ {s : Store} {a : Slices} {was output : List ℕ} {ended : Bool} {r : Pr
 -- ---- between two turns
 pub record Running (was : Slices) (s : Store) (input output : List ℕ) (held : ℕ) : Type 0 where
   pub long : Long was (s .slices)
-  pub reads : 131072 ≡ length input
-  pub writes : 393239 ≡ length output
+  pub reads : inputRoom ≡ length input
+  pub writes : outputRoom ≡ length output
   pub sound : Sound s
-  pub short : held < 65537
-
-pub counts-down : (turns : ℕ) → 0 < turns → turns - 1 < turns
-counts-down turns h = omega arith
+  pub short : held < longestRecord

@@ -11,12 +11,15 @@ ghost use Prim.Native.Nat.{_<_, _≤_};
 ghost use lib.ListN.{length};
 ghost use Rattle.store.specs.Store.{storeOf};
 ghost use Rattle.store.specs.Written.{Sound};
+ghost use Rattle.records.specs.Requests.{longestRecord};
+ghost use Rattle.trace.specs.Rooms.{inputRoom, outputRoom};
 
-// Input room for more than the longest record, 65,537 bytes, and output room for every reply to it: then a turn leaves less than a record
-// (session's `Waits`), and there is always room to read.
+// The bytes of the input's room, more than the longest record has, and of the output's: three times the input and one longest reply, since a
+// reply has at most three times its request's bytes. So a turn leaves less than a record (session's `Waits`), and there is always room to
+// read. The same numbers stand in specs/Rooms.antt.
 const INPUT: usize = 131072;
 
-const OUTPUT: usize = 393239;
+const OUTPUT: usize = 3 * INPUT + replies::LONGEST;
 
 // What a turn leaves: the record, how much input is held, and whether the run is over.
 struct Turned {
@@ -27,13 +30,13 @@ struct Turned {
 
 // Each contract gives only the length, which lending a part needs.
 fn input_room() -> [u8; INPUT]
-    ensures { λ r. ⌜ 131072 ≡ length r ⌝ }
+    ensures { λ r. ⌜ inputRoom ≡ length r ⌝ }
 {
     [0; INPUT]
 }
 
 fn output_room() -> [u8; OUTPUT]
-    ensures { λ r. ⌜ 393239 ≡ length r ⌝ }
+    ensures { λ r. ⌜ outputRoom ≡ length r ⌝ }
 {
     [0; OUTPUT]
 }
@@ -58,8 +61,8 @@ fn turn(
     output: &mut [u8],
 ) -> Turned
     requires { ⌜ Sound (storeOf (now array) (now entries) (now index) sizes) ⌝ }
-    requires { ⌜ (held < 65537) × (131072 ≡ length (now input)) × (393239 ≡ length (now output)) ⌝ }
-    ensures { λ r. ⌜ (r .over ≡ false → Sound (storeOf (now (array .exit)) (now (entries .exit)) (now (index .exit)) (r .sizes)) × (r .held < 65537)) ⌝ }
+    requires { ⌜ (held < longestRecord) × (inputRoom ≡ length (now input)) × (outputRoom ≡ length (now output)) ⌝ }
+    ensures { λ r. ⌜ (r .over ≡ false → Sound (storeOf (now (array .exit)) (now (entries .exit)) (now (index .exit)) (r .sizes)) × (r .held < longestRecord)) ⌝ }
 {
     let got = read_some(&mut input[held..]);
     let n = held + got;
@@ -99,7 +102,7 @@ fn run(array: &mut [u64], entries: &mut [u64], index: &mut [Word], sizes: Record
 fn main() {
     let mut array = [0u64; session::ARRAY];
     let mut entries = [0u64; session::ENTRIES];
-    let mut index = [0u16; session::INDEX];
+    let mut index: [Word; session::INDEX] = [0; session::INDEX];
     match store::fresh(&mut array, &mut entries, &mut index) {
         Made::Store(sizes) => run(&mut array, &mut entries, &mut index, sizes),
         Made::No(_) => {}

@@ -23,7 +23,7 @@ use Rattle.model.proofs.Map.{set-key, set-no-key, numbered}
 use Rattle.model.proofs.Kept.{setKey-kept}
 use Rattle.model.proofs.Next.{next-nil, next-there, after-key, get-key, pairs-apart, pair-canonical, has-middle, next-lists}
 use Rattle.walk.specs.History.{liveKeys}
-use Rattle.walk.proofs.Lists.{apart, keys-split, lastKey, last-snoc, last-entry, Passed, first-found, first-last}
+use Rattle.walk.proofs.Lists.{apart, keys-split, lastKey, last-snoc, last-entry, FirstFound, first-found, first-last}
 
 pub record Inv (room : Room) (t₀ t : Table) (allowed : List Words) (key : Words) (handed : List Entry) (Through : Words → Type 0) : Type 0 where
   pub wellFormed : WellFormed room t
@@ -149,7 +149,7 @@ module _ {room : Room} {t₀ t : Table} {allowed : List Words} {key : Words} {ha
       clash (ap isNil g ∙ first-last l k f) (i .now j th))
 
   module _ (k v : Words) (n : nextOf t key ≡ found k v) where
-    ahead : Passed (i .after) k v
+    ahead : FirstFound (i .after) k v
     ahead = first-found (i .after) k v (sym next-first ∙ n)
 
     abbrev behind : List Entry

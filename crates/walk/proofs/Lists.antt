@@ -74,18 +74,18 @@ last-entry s (y ∷ ys) =
     (s ∷ r .0, r .1, ap {B = List Entry} (λ l. s ∷ l) (r .2), r .3)
 
 -- ---- the first pair with a value
-pub record Passed (l : List Entry) (k v : Words) : Type 0 where
+pub record FirstFound (l : List Entry) (k v : Words) : Type 0 where
   pub passed : List Entry
   pub rest : List Entry
   pub is : l ≡ passed ++ (entry k v ∷ rest)
   pub none : first passed ≡ last
   pub value : isNil v ≡ false
 
-pub first-found : (l : List Entry) (k v : Words) → first l ≡ found k v → Passed l k v
+pub first-found : (l : List Entry) (k v : Words) → first l ≡ found k v → FirstFound l k v
 first-found [] k v h = never (cc)
 first-found (s ∷ ss) k v h =
     caseb (isNil (s .value))
-    (λ e. let r : Passed ss k v = first-found ss k v (rw e at h) in
+    (λ e. let r : FirstFound ss k v = first-found ss k v (rw e at h) in
     record { passed = s ∷ r .passed; rest = r .rest; is = ap {B = List Entry} (λ l. s ∷ l) (r .is); none = rw e (r .none); value = r .value })
     (λ e. let g : found (s .key) (s .value) ≡ found k v = rw e at h in
     let kk : s .key ≡ k = cc in

@@ -17,7 +17,7 @@ use Rattle.model.proofs.Entries.{length-keys}
 use Rattle.model.proofs.Refusals.{set-unchanged, reserve-refused}
 use Rattle.model.proofs.Next.{get-key}
 use Rattle.walk.specs.History.{liveKeys, History, begin, read, refusedSet, refusedReserve, clear, write, step, Throughout}
-use Rattle.walk.specs.Walked.{atStart, Walked}
+use Rattle.walk.specs.Walked.{atStart, TableWalked}
 use Rattle.walk.proofs.Lists.{no-longer, first-there}
 use Rattle.walk.proofs.Events.{Inv, value-there, next-first, unchanged, was-set, passed-by, shows, stepped, begun}
 
@@ -40,7 +40,7 @@ module _ {room : Room} {t₀ t : Table} {allowed : List Words} {key : Words} {ha
   ended q last n = refl
   ended q notFound n = absurd (first-there (i .after) (sym (next-first i) ∙ n))
 
-  walked : Walked room t₀ t key handed Through
+  walked : TableWalked room t₀ t key handed Through
   walked =
       record {
         wellFormed = i .wellFormed;
@@ -52,5 +52,5 @@ module _ {room : Room} {t₀ t : Table} {allowed : List Words} {key : Words} {ha
         all = λ n j k c th. passed-by i (i .after) [] (sym (append-nil (i .after))) (sym (next-first i) ∙ n) j k c th (rw (i .split) at (value-there (i .wellFormed) k (ap isNil (sym (get-key t j k c)) ∙ i .now j th)));
       }
 
-pub walk : {room : Room} {t₀ t : Table} {allowed : List Words} {key : Words} {handed : List Entry} → WellFormed room t₀ → (w : History room t₀ t allowed key handed) → Walked room t₀ t key handed (Throughout w)
+pub walk : {room : Room} {t₀ t : Table} {allowed : List Words} {key : Words} {handed : List Entry} → WellFormed room t₀ → (w : History room t₀ t allowed key handed) → TableWalked room t₀ t key handed (Throughout w)
 walk w₀ w = walked (holds w₀ w)

@@ -17,7 +17,7 @@ use Rattle.walk.specs.History.{liveKeys}
 abbrev pub atStart : Table → ℕ
 atStart t₀ = length (liveKeys t₀)
 
-pub record Walked (room : Room) (t₀ t : Table) (key : Words) (handed : List Entry) (Throughout : Words → Type 0) : Type 0 where
+pub record TableWalked (room : Room) (t₀ t : Table) (key : Words) (handed : List Entry) (Throughout : Words → Type 0) : Type 0 where
   -- the table stays well-formed
   pub wellFormed : WellFormed room t
   -- no step answers NotFound

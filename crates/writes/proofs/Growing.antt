@@ -13,12 +13,11 @@ use Rattle.model.specs.Growth.{rehashed, grownAllowance}
 use Rattle.model.proofs.Array.{place-within}
 use Rattle.model.proofs.Map.{rehashed-length}
 use Rattle.store.specs.declared.Record.{Record}
-use Rattle.store.specs.Store.{Slices, Store, store, storeOf, Lengths, lengthsOf}
+use Rattle.store.specs.Store.{Slices, Store, store, storeOf, Lengths, lengthsOf, roomFor}
 use Rattle.store.specs.Written.{written, tableOf}
 use Rattle.store.proofs.Views.{length-array}
 use Rattle.store.proofs.Puts.{array-put, append-indexed, still-indexed}
 use Rattle.rehash.specs.Rehash.{Rehashes}
-use Rattle.writes.specs.Writes.{roomFor}
 use Rattle.writes.specs.Roads.{ArrayGrown, EntryGrown}
 
 module _ (s : Store) (S first : ℕ) (k v : Words) (r : Record) (after : Slices) (a : Rehashes s S first r (store after r)) where

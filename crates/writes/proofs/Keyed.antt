@@ -14,21 +14,21 @@ use Rattle.lent.specs.Lent.{valueAt, putValue, putEntry}
 use Rattle.index.specs.declared.Found.{Found}
 use Rattle.index.specs.declared.Found.the-variants.{At, Absent, Full}
 use Rattle.index.specs.Index.{Right}
-use Rattle.index.specs.Search.{Answers}
+use Rattle.index.specs.Search.{Finds}
 use Rattle.model.specs.Table.{Table, within, placeOf}
 use Rattle.model.specs.Calls.{grow, setKey}
 use Rattle.model.proofs.Entries.{tabulate-at}
 use Rattle.model.proofs.Array.{place-within}
 use Rattle.store.specs.declared.Record.{Record}
-use Rattle.store.specs.Store.{Slices, slices, Store, storeOf, Lengths, lengthsOf}
+use Rattle.store.specs.Store.{Slices, slices, Store, storeOf, Lengths, lengthsOf, roomFor}
 use Rattle.store.specs.Written.{Sound, tableOf}
 use Rattle.store.proofs.Views.{length-array, length-entries}
-use Rattle.store.proofs.Sound.{Fits, fits, sound-clauses, sound-formed, sound-written, right-index}
+use Rattle.store.proofs.Sound.{Fits, fits, sound-formed, sound-written, right-index, sound-shaped}
 use Rattle.store.proofs.Puts.{array-put, entry-put, append-here}
 use Rattle.store.proofs.Keys.{inside-by, key-by, has-by, find-by}
 use Rattle.writes.specs.declared.SetWords.{SetWords}
 use Rattle.writes.specs.declared.SetWords.the-variants.{Done as SetDoes, No as SetNo}
-use Rattle.writes.specs.Writes.{Left, left, writtenOut, roomFor}
+use Rattle.writes.specs.Writes.{Left, left, writtenOut}
 use Rattle.writes.specs.Roads.{GrowDone, withCount, AbsentAt, AbsentDoes, KeyDone}
 
 module _ (s : Store) (S : Sound s) (k v : Words) where
@@ -52,7 +52,7 @@ module _ (s : Store) (S : Sound s) (k v : Words) where
   Leaves x = x ≡ writtenOut l (setKey (roomFor s) t k v)
 
   room : Fits l (s .sizes)
-  room = fits l (s .sizes) (sound-clauses s S .shape)
+  room = fits l (s .sizes) (sound-shaped s S)
 
   within-is : within (length (t .array)) k ≡ within (s .sizes .size) k
   within-is = ap (λ (A : ℕ). within A k) (length-array s)
@@ -73,7 +73,7 @@ module _ (s : Store) (S : Sound s) (k v : Words) where
       rw (within-is ∙ h)
       (λ j. left 0 (sym (value-is (placeOf k) p) j) (array-put l t s (sound-written s S) k v (omega (arith, length-array s)) (omega (arith, length-array s, room .array)) j))
 
-  over-entry : within (s .sizes .size) k ≡ false → (i : ℕ) → Answers (s .slices .entries) (s .sizes .count) (s .slices .index) k (At i)
+  over-entry : within (s .sizes .size) k ≡ false → (i : ℕ) → Finds (s .slices .entries) (s .sizes .count) (s .slices .index) k (At i)
       → Leaves (left 0 (valueAt (s .slices .entries) (2 * i + 1)) (storeOf (s .slices .array) (putValue (s .slices .entries) (2 * i + 1) v) (s .slices .index) (s .sizes)))
   unfolding setKey tableOf
   over-entry h i a =
@@ -83,7 +83,7 @@ module _ (s : Store) (S : Sound s) (k v : Words) where
       (entry-put l t s (sound-written s S) i k v (sound-formed s S .apart) (inside-by ew E iw k i a) (key-by ew E iw k i a)
       (omega (arith, length-entries s, room .entries)) j))
 
-  absent-at : within (s .sizes .size) k ≡ false → (p : ℕ) → Answers (s .slices .entries) (s .sizes .count) (s .slices .index) k (Absent p) → AbsentAt s p k
+  absent-at : within (s .sizes .size) k ≡ false → (p : ℕ) → Finds (s .slices .entries) (s .sizes .count) (s .slices .index) k (Absent p) → AbsentAt s p k
   unfolding tableOf
   absent-at h p a = record { outside = h; absent = has-by ew E iw k (Absent p) a; here = a .2 }
 
@@ -97,7 +97,7 @@ module _ (s : Store) (S : Sound s) (k v : Words) where
     unfolding setKey tableOf
     one-more n h =
         let many : length (t .entries) ≡ E = length-entries s in
-        let shape = sound-clauses s S .shape in
+        let shape = sound-shaped s S in
         let enough : 4 * s .sizes .count + 4 ≤ length (s .slices .entries) = omega (arith, shape .lengths .entriesWhole, shape .allowanceFits) in
         rw (within-is ∙ a .outside, a .absent, n, lt-ltb (length (t .entries)) (t .allowance) (omega (arith, many, allowance-is)))
         (ap (left 0 nil)
@@ -115,7 +115,7 @@ module _ (s : Store) (k v : Words) where
   array-done h i e p q aw w = (tt, record { refused = λ n. absurd (n refl); sound = λ S. rw (q, w, e) (over-array s S k v h) })
 
   abbrev Answered : Found → Type 0
-  Answered = Answers (s .slices .entries) (s .sizes .count) (s .slices .index) k
+  Answered = Finds (s .slices .entries) (s .sizes .count) (s .slices .index) k
 
   module _ (r : Found) (f : Right (s .slices .entries) (s .sizes .count) (s .slices .index) → Answered r) where
     answered : Sound s → (found : Found) → r ≡ found → Answered found

@@ -19,7 +19,7 @@ use Rattle.model.specs.WellFormed.{WellFormed}
 use Rattle.model.proofs.Size.{size-le}
 use Rattle.model.proofs.Map.{rehashed-length}
 use Rattle.store.specs.declared.Record.{Record}
-use Rattle.store.specs.Store.{Slices, Store, store, Lengths, lengthsOf}
+use Rattle.store.specs.Store.{Slices, Store, store, Lengths, lengthsOf, roomFor}
 use Rattle.store.specs.Shape.{Shaped}
 use Rattle.store.specs.Written.{written, Sound, tableOf}
 use Rattle.store.proofs.Views.{length-array}
@@ -27,7 +27,7 @@ use Rattle.store.proofs.Sound.{sound-written, written-sound}
 use Rattle.growth.specs.Counts.{GrownSize}
 use Rattle.rehash.specs.Rehash.{stayingIn}
 use Rattle.writes.specs.declared.SetWords.the-variants.{Done as SetDoes, No as SetNo}
-use Rattle.writes.specs.Writes.{Left, left, writtenOut, roomFor}
+use Rattle.writes.specs.Writes.{Left, left, writtenOut}
 use Rattle.writes.specs.Roads.{ArrayGrown, EntryGrown, GrowDone}
 
 -- ---- soundness

@@ -16,13 +16,13 @@ use Rattle.model.specs.WellFormed.{WellFormed}
 use Rattle.model.proofs.Map.{set-key, set-no-key}
 use Rattle.model.proofs.Kept.{setOf-kept}
 use Rattle.store.specs.declared.Record.{Record}
-use Rattle.store.specs.Store.{Slices, Store, lengthsOf}
+use Rattle.store.specs.Store.{Slices, Store, lengthsOf, roomFor}
 use Rattle.store.specs.Shape.{Shaped}
 use Rattle.store.specs.Written.{Sound, tableOf}
-use Rattle.store.proofs.Sound.{sound-clauses, sound-formed, sound-written}
+use Rattle.store.proofs.Sound.{sound-formed, sound-written, sound-shaped}
 use Rattle.writes.specs.declared.SetWords.{SetWords}
 use Rattle.writes.specs.declared.SetWords.the-variants.{Done as SetDoes, No as SetNo}
-use Rattle.writes.specs.Writes.{Left, left, setLeft, SetNumbered, writtenOut, Does, RoomOnly, SetNumbers, Promised, roomFor, setOutcome, SetDone}
+use Rattle.writes.specs.Writes.{Left, left, setLeft, SetNumbered, writtenOut, Does, RoomOnly, SetNumbers, Promised, setOutcome, SetDone}
 use Rattle.writes.specs.Roads.{RefusesRoom, KeyDone}
 use Rattle.writes.proofs.Outcomes.{outcome-sound}
 
@@ -32,7 +32,7 @@ wrong-shape s h =
     record {
       wrong = λ x. refl;
       right = λ x. absurd (h x);
-      does = record { refused = λ r. refl; sound = λ S. absurd (h (sound-clauses s S .shape)) };
+      does = record { refused = λ r. refl; sound = λ S. absurd (h (sound-shaped s S)) };
       kept = λ S g. S;
     }
 

@@ -1,7 +1,7 @@
 -- The roads of a reserve on a sound store: enough room, no room, and cleared entries dropped. Each leaves the table's outcome, written out.
 -- Assumes nothing.
 use mathlib.Core.Path.{_≡_, refl, sym, ap, _∙_}
-use mathlib.Core.Bool.{Bool, true, false, _&&_}
+use mathlib.Core.Bool.{and-true}
 use mathlib.Core.List.{List, [], _∷_}
 use Prim.Native.Nat.{ℕ, suc, _+_, _-_, _≤_, _<_, max}
 use native.Mathlib.Omega.{arith}
@@ -20,18 +20,14 @@ use Rattle.model.proofs.Entries.{length-keep, length-tabulate, tabulate-is}
 use Rattle.model.proofs.Map.{numbered}
 use Rattle.model.proofs.Border.{in-array}
 use Rattle.store.specs.declared.Record.{Record}
-use Rattle.store.specs.Store.{Slices, Store, store, Lengths, lengthsOf}
-use Rattle.store.specs.Written.{written, Sound, entryAt, tableOf}
+use Rattle.store.specs.Store.{Slices, Store, store, Lengths, lengthsOf, roomFor}
+use Rattle.store.specs.Written.{written, Sound, entryAt, tableOf, entriesIn}
 use Rattle.store.proofs.Views.{length-array, length-entries}
 use Rattle.store.proofs.Sound.{sound-formed, sound-written}
-use Rattle.rehash.specs.Rehash.{entriesIn, stayingIn}
-use Rattle.writes.specs.Writes.{Left, left, writtenOut, roomFor}
+use Rattle.rehash.specs.Rehash.{stayingIn}
+use Rattle.writes.specs.Writes.{Left, left, writtenOut}
 
 -- where no entry has an index below A, those that stay are those with a value
-and-true : (b : Bool) → (b && true) ≡ b
-and-true true = refl
-and-true false = refl
-
 staying-live : (A : ℕ) (l : List Entry) → Each (Outside A) l → keep (stays A) l ≡ keep live l
 unfolding stays
 staying-live A [] o = refl

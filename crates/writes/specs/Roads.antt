@@ -13,11 +13,11 @@ use Rattle.model.specs.Table.{within}
 use Rattle.model.specs.Growth.{rehashed, grownAllowance}
 use Rattle.model.specs.Calls.{writeArray, append, grow, setKey}
 use Rattle.store.specs.declared.Record.{Record}
-use Rattle.store.specs.Store.{Slices, Store, lengthsOf}
+use Rattle.store.specs.Store.{Slices, Store, lengthsOf, roomFor}
 use Rattle.store.specs.Written.{written, Sound, tableOf}
 use Rattle.writes.specs.declared.SetWords.{SetWords}
 use Rattle.writes.specs.declared.SetWords.the-variants.{Done as SetDoes, No as SetNo}
-use Rattle.writes.specs.Writes.{setLeft, writtenOut, Does, roomFor}
+use Rattle.writes.specs.Writes.{setLeft, writtenOut, Does}
 
 -- beneath the public call, a set refuses for want of room only
 abbrev pub RefusesRoom : SetWords → Type 0

@@ -8,10 +8,9 @@ use Rattle.value.specs.Encoding.{Decodes}
 use Rattle.value.specs.Same.{nil}
 use Rattle.key.specs.Refusals.{noRoom, wrongShape}
 use Rattle.key.specs.Canonical.{canonicalKey, onKey}
-use Rattle.model.specs.Table.{Room}
 use Rattle.model.specs.Calls.{Outcome, setOf, reserveOf}
 use Rattle.store.specs.declared.Record.{Record}
-use Rattle.store.specs.Store.{Slices, Store, store, Lengths, lengthsOf, roomOf}
+use Rattle.store.specs.Store.{Slices, Store, store, Lengths, lengthsOf, roomFor}
 use Rattle.store.specs.Shape.{Shaped}
 use Rattle.store.specs.Written.{written, Sound, tableOf}
 use Rattle.writes.specs.declared.SetWords.{SetWords}
@@ -68,9 +67,6 @@ pub record Promised (before : Store) (o : Outcome) (Numbers : ℕ → Type 0) (G
   pub right : Shaped before → Numbers (l .refusal)
   pub does : Does before o l
   pub kept : Sound before → Given → Sound (l .store)
-
-abbrev pub roomFor : Store → Room
-roomFor s = roomOf (lengthsOf (s .slices))
 
 abbrev pub setOutcome : Store → Words → Words → Outcome
 setOutcome s key v = setOf (roomFor s) (tableOf s) key v

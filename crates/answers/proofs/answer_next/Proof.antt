@@ -2,7 +2,8 @@
 use mathlib.Core.Path.{sym, ap}
 use Rattle.store.specs.Store.{storeOf}
 use Rattle.replies.specs.declared.Reply.the-variants.{Found, Last, NotFound, Fault}
-use Rattle.answers.proofs.Requests.{nextReply, next-answers}
+use Rattle.answers.specs.Answers.{nextReply}
+use Rattle.answers.proofs.Requests.{next-answers}
 use Rattle.answers.proofs.answer_next.Statement.{statement}
 use Rattle.answers.proofs.answer_next.Tie as tie
 

@@ -3,6 +3,7 @@ use mathlib.Core.Path.{_≡_}
 use mathlib.Core.Logic.{⊎-elim}
 use Prim.Native.Nat.{_-_, min}
 use native.Mathlib.Omega.{arith}
+use Rattle.store.specs.Limits.{classCounts}
 use Rattle.store.specs.Written.{pairAt}
 use Rattle.growth.specs.Counts.{Counted}
 use Rattle.lent.specs.Lent.{valueAt}
@@ -17,7 +18,7 @@ abbrev Inv-loop : tie.InvT-loop
 Inv-loop array size c₀ from₀ to₀ class₀ c from to class = Range class from to × Counted (firsts (pairAt array) (min from size)) c₀ c
 
 abbrev μ-loop : tie.MeasureT-loop
-μ-loop array size c₀ from₀ to₀ class₀ c from to class = size - from
+μ-loop array size c₀ from₀ to₀ class₀ c from to class = classCounts - class
 
 loop-holds : tie.Need-loop-holds Inv-loop μ-loop
 loop-holds c =
@@ -49,7 +50,7 @@ add-class c =
     omega (arith, range-counted (at .loop .inv .0) (omega arith))
 
 loop-less : tie.Need-loop-less Inv-loop μ-loop
-loop-less c = omega (arith, range-up (c .before .before .before .before .loop .inv .0))
+loop-less c = let at = c .before .before .before .before in omega (arith, range-counted (at .loop .inv .0) (omega arith))
 
 loop-again : tie.Need-loop-again Inv-loop μ-loop
 loop-again c =

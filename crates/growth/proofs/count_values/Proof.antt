@@ -5,13 +5,13 @@ use Prim.Native.Nat.{ℕ, _-_, _≤_}
 use native.Mathlib.Omega.{arith}
 use borrow.Author.Tests.{not-true, not-false}
 use Rattle.value.specs.Same.{isNil}
-use Rattle.growth.specs.Counts.{valuesIn}
+use Rattle.growth.specs.Counts.{countOfValues}
 use Rattle.growth.proofs.Ranges.{values-none, values-nil, values-one}
 use Rattle.growth.proofs.count_values.Statement.{statement}
 use Rattle.growth.proofs.count_values.Tie as tie
 
 abbrev Inv-loop : tie.InvT-loop
-Inv-loop array from to n₀ i₀ n i = (from ≤ i) × (i ≤ to) × (n ≤ i - from) × (n ≡ valuesIn array from (i - from))
+Inv-loop array from to n₀ i₀ n i = (from ≤ i) × (i ≤ to) × (n ≤ i - from) × (n ≡ countOfValues array from (i - from))
 
 abbrev μ-loop : tie.MeasureT-loop
 μ-loop array from to n₀ i₀ n i = to - i
@@ -51,7 +51,7 @@ returns c =
     let at = c .before in
     let a = at .before .before .args in
     let all : at .loop .i ≡ a .to = omega arith in
-    (at .loop .inv .3 ∙ ap (λ (j : ℕ). valuesIn (a .array .now) (a .from) (j - a .from)) all, omega arith)
+    (at .loop .inv .3 ∙ ap (λ (j : ℕ). countOfValues (a .array .now) (a .from) (j - a .from)) all, omega arith)
 
 pub count-values-spec : {M : Type 1} → statement M
 count-values-spec =

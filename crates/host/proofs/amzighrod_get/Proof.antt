@@ -5,6 +5,9 @@ use borrow.Author.Needs.{needs}
 use Rattle.host.proofs.amzighrod_get.Statement.{statement}
 use Rattle.host.proofs.amzighrod_get.Tie as tie
 
+words-of-requires : tie.Need-words-of-requires
+words-of-requires c κs = search needs
+
 sizes-of-requires : tie.Need-sizes-of-requires
 sizes-of-requires c κs = search needs
 
@@ -20,14 +23,14 @@ enum-known-n c = search needs
 returns : tie.Need-returns
 returns c =
     let call = c .before .before .before in
-    (Value _, rw (call .before .sizes-of .ensures, c .before .found .given .1) at (call .get-words .ensures), (refl, refl))
+    (Value _, rw (call .before .before .words-of .ensures, call .before .sizes-of .ensures, c .before .found .given .1) at (call .get-words .ensures), (refl, refl))
 
 returns-2 : tie.Need-returns-2
 returns-2 c =
     let call = c .before .before .before in
-    (No _, rw (call .before .sizes-of .ensures, c .before .n .given .1) at (call .get-words .ensures), (refl, refl))
+    (No _, rw (call .before .before .words-of .ensures, call .before .sizes-of .ensures, c .before .n .given .1) at (call .get-words .ensures), (refl, refl))
 
 pub amzighrod-get-spec : {M : Type 1} → statement M
 amzighrod-get-spec =
     tie.close
-    (tie.spec sizes-of-requires get-words-requires enum-known-found enum-known-n returns returns-2)
+    (tie.spec words-of-requires sizes-of-requires get-words-requires enum-known-found enum-known-n returns returns-2)

@@ -3,7 +3,7 @@ use mathlib.Core.Path.{sym, ap, _∙_}
 use borrow.Author.Needs.{needs}
 use Rattle.value.proofs.Cases.{never}
 use Rattle.index.specs.Search.{searched}
-use Rattle.index.proofs.Answers.{says-at, says-not-at}
+use Rattle.index.proofs.Searches.{says-at, says-not-at}
 use Rattle.index.proofs.finds_own.Statement.{statement}
 use Rattle.index.proofs.finds_own.Tie as tie
 

@@ -1,7 +1,7 @@
 -- `index::is_right` meets its contract. Assumes nothing.
 use borrow.Author.Needs.{needs}
 use Rattle.lent.proofs.Says.{says-no, says-same, said-yes, said-no}
-use Rattle.index.proofs.Answers.{found-distinct, right-found}
+use Rattle.index.proofs.Searches.{found-distinct, right-found}
 use Rattle.index.proofs.is_right.Statement.{statement}
 use Rattle.index.proofs.is_right.Tie as tie
 

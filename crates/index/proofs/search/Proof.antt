@@ -8,7 +8,7 @@ use lib.ListN.{length, getD}
 use Rattle.value.specs.declared.Words.{Words}
 use Rattle.value.specs.Same.{same}
 use Rattle.index.specs.Search.{hits}
-use Rattle.index.proofs.Answers.{hit-same, hit-past, Climbing, search-start, search-empty, search-hit, search-turn, search-full}
+use Rattle.index.proofs.Searches.{hit-same, hit-past, Climbing, search-start, search-empty, search-hit, search-turn, search-full}
 use Rattle.index.proofs.search.Statement.{statement}
 use Rattle.index.proofs.search.Tie as tie
 

@@ -14,7 +14,7 @@ Inv-loop entries index₀ first count i₀ index i =
     × (index₀ ≡ indexWords (length index₀) entries count → index ≡ indexWords (length index₀) entries i)
 
 abbrev μ-loop : tie.MeasureT-loop
-μ-loop entries index₀ first count i₀ index i = i
+μ-loop entries index₀ first count i₀ index i = i - first
 
 loop-holds : tie.Need-loop-holds Inv-loop μ-loop
 loop-holds c = (omega arith, omega arith, refl, λ p. p)

@@ -2,7 +2,7 @@
 use Prim.Native.Nat.{_-_, _≤_}
 use native.Mathlib.Omega.{arith}
 use lib.ListN.{length}
-use Rattle.limits.proofs.Lengths.{SameLengths}
+use Rattle.calls.proofs.Lengths.{SameLengths}
 use Rattle.limits.proofs.run.Statement.{statement}
 use Rattle.limits.proofs.run.Tie as tie
 

@@ -10,22 +10,22 @@ use Rattle.key.specs.Canonical.{integer, largest}
 use Rattle.index.specs.Index.{Right}
 use Rattle.model.specs.Entries.{has}
 use Rattle.model.specs.Length.{double}
-use Rattle.model.specs.Growth.{tabulate}
-use Rattle.store.specs.Written.{entryAt}
+use Rattle.store.specs.Written.{entriesIn}
 use Rattle.reads.proofs.Halving.{Doubling, doubling-start, doubling-turn, doubling-end}
+use Rattle.reads.proofs.Rounds.{doublings, last-less, doubled-less}
 use Rattle.reads.proofs.double.Statement.{statement}
 use Rattle.reads.proofs.double.Tie as tie
 
 -- whether an Integer has an entry
 abbrev there : List ℕ → ℕ → ℕ → Bool
-there entries count n = has (tabulate count (entryAt entries) 0) (integer n)
+there entries count n = has (entriesIn entries count) (integer n)
 
 abbrev Inv-loop : tie.InvT-loop
 Inv-loop entries index count from max₀ max =
     (from ≤ max) × (max ≤ largest) × (Right entries count index → Doubling (there entries count) (double (there entries count) 64 from) max)
 
 abbrev μ-loop : tie.MeasureT-loop
-μ-loop entries index count from max₀ max = largest - max
+μ-loop entries index count from max₀ max = doublings max
 
 loop-holds : tie.Need-loop-holds Inv-loop μ-loop
 loop-holds c = (omega arith, omega arith, λ R. doubling-start _ _ (c .before .before .args .from) (omega arith) refl)
@@ -45,7 +45,7 @@ mul-max : tie.Need-mul-max Inv-loop μ-loop
 mul-max c = omega arith
 
 loop-less : tie.Need-loop-less Inv-loop μ-loop
-loop-less c = omega arith
+loop-less c = last-less (c .before .before .before .before .loop .max) (c .before .before .before .loop-test .taken)
 
 loop-again : tie.Need-loop-again Inv-loop μ-loop
 loop-again c = (
@@ -58,7 +58,7 @@ loop-again c = (
 )
 
 loop-less-2 : tie.Need-loop-less-2 Inv-loop μ-loop
-loop-less-2 c = omega arith
+loop-less-2 c = doubled-less (c .before .before .before .before .loop .max) (c .before .before .before .loop-test .taken) (omega arith) (omega arith)
 
 loop-again-2 : tie.Need-loop-again-2 Inv-loop μ-loop
 loop-again-2 c = (

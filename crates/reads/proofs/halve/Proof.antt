@@ -7,6 +7,7 @@ use Rattle.model.specs.Length.{nilAt, halve}
 use Rattle.store.specs.Store.{storeOf}
 use Rattle.store.specs.Written.{Sound, tableOf}
 use Rattle.reads.proofs.Halving.{Halving, halving-start, halving-turn, halving-end}
+use Rattle.reads.proofs.Rounds.{halvings, halved-less}
 use Rattle.reads.proofs.halve.Statement.{statement}
 use Rattle.reads.proofs.halve.Tie as tie
 
@@ -17,7 +18,7 @@ Inv-loop array entries index sizes low high min₀ max₀ min max =
     (min ≤ max) × (max ≤ high) × (Sound s → Halving nils (halve nils 64 low high) min max)
 
 abbrev μ-loop : tie.MeasureT-loop
-μ-loop array entries index sizes low high min₀ max₀ min max = max - min
+μ-loop array entries index sizes low high min₀ max₀ min max = halvings (max - min)
 
 loop-holds : tie.Need-loop-holds Inv-loop μ-loop
 loop-holds c = let a = c .before .before .before .args in (omega arith, omega arith, λ S. halving-start _ _ (a .low) (a .high) (omega arith) refl)
@@ -35,7 +36,7 @@ is-nil-at-requires : tie.Need-is-nil-at-requires Inv-loop μ-loop
 is-nil-at-requires c κs = c .before .before .before .before .before .pre .0
 
 loop-less : tie.Need-loop-less Inv-loop μ-loop
-loop-less c = omega arith
+loop-less c = let loop = c .before .before .before .loop in halved-less (loop .max - loop .min) _ (c .before .before .loop-test .taken) (omega arith)
 
 loop-again : tie.Need-loop-again Inv-loop μ-loop
 loop-again c =
@@ -47,7 +48,7 @@ loop-again c =
     )
 
 loop-less-2 : tie.Need-loop-less-2 Inv-loop μ-loop
-loop-less-2 c = omega arith
+loop-less-2 c = let loop = c .before .before .before .loop in halved-less (loop .max - loop .min) _ (c .before .before .loop-test .taken) (omega arith)
 
 loop-again-2 : tie.Need-loop-again-2 Inv-loop μ-loop
 loop-again-2 c =

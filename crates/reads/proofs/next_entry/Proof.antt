@@ -5,9 +5,11 @@ use Prim.Native.Nat.{_-_}
 use native.Mathlib.Omega.{arith}
 use borrow.Author.Tests.{not-true, not-false}
 use Rattle.value.specs.Same.{isNil}
-use Rattle.model.specs.Entries.{found, first}
+use Rattle.model.specs.Entries.{first}
 use Rattle.model.specs.Growth.{tabulate}
 use Rattle.store.specs.Written.{entryAt}
+use Rattle.reads.specs.declared.NextWords.the-variants.{Found}
+use Rattle.reads.specs.Reads.{inWords}
 use Rattle.reads.proofs.Walking.{Walking, walking-alone, walking-turn, walking-found, walking-end}
 use Rattle.reads.proofs.next_entry.Statement.{statement}
 use Rattle.reads.proofs.next_entry.Tie as tie
@@ -43,7 +45,7 @@ returns : tie.Need-returns Inv-loop μ-loop
 returns c = let at = c .before .before .before in
     let i = at .before .before .loop in
     let live = ap isNil (sym (at .value-at .ensures)) ∙ sym (c .before .before .is-nil .ensures) ∙ not-true _ (c .before .if1 .taken) in
-    walking-found _ _ _ _ _ (i .inv) (omega arith) live ∙ (λ j. found (sym (c .value-at2 .ensures) j) (sym (at .value-at .ensures) j))
+    (λ j. Found (c .value-at2 .ensures j) (at .value-at .ensures j)) ∙ ap inWords (sym (walking-found _ _ _ _ _ (i .inv) (omega arith) live))
 
 add-i : tie.Need-add-i Inv-loop μ-loop
 add-i c = omega arith
@@ -58,7 +60,7 @@ loop-again c = let at = c .before .before in
     walking-turn _ _ _ _ _ (i .inv) (omega arith) cleared
 
 returns-2 : tie.Need-returns-2 Inv-loop μ-loop
-returns-2 c = walking-end _ _ _ _ _ (c .before .loop .inv) (c .loop-test .left)
+returns-2 c = ap inWords (sym (walking-end _ _ _ _ _ (c .before .loop .inv) (c .loop-test .left)))
 
 pub next-entry-spec : {M : Type 1} → statement M
 next-entry-spec =

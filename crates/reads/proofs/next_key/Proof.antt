@@ -1,10 +1,10 @@
 -- `reads::next_key` meets its contract: on from the key's place in the array, or from the entry that the search answers. Assumes nothing.
-use mathlib.Core.Path.{sym, _∙_}
+use mathlib.Core.Path.{refl, sym, _∙_}
 use native.Mathlib.Omega.{arith}
 use borrow.Author.Needs.{needs}
+use Rattle.model.specs.Entries.{notFound}
 use Rattle.store.proofs.Sound.{fits}
 use Rattle.reads.proofs.Keys.{found-in, place-in, next-in, next-by}
-use Rattle.reads.proofs.Walking.{next-made}
 use Rattle.reads.proofs.next_key.Statement.{statement}
 use Rattle.reads.proofs.next_key.Tie as tie
 
@@ -35,7 +35,7 @@ returns : tie.Need-returns
 returns c =
     let at = c .before .before .before in
     let within = sym (at .is-within .ensures) ∙ c .before .before .if1 .taken in
-    next-made _ _ _ (c .next-pair .result) (λ S. next-in _ _ _ (c .before .place-of .ensures) within) (c .next-pair .ensures)
+    (_, c .next-pair .ensures, λ S. next-in _ _ _ (c .before .place-of .ensures) within)
 
 search-requires : tie.Need-search-requires
 search-requires c κs = let f = fits _ _ (c .before .before .before .before .before .pre) in (f .entries, omega (arith, f .index))
@@ -64,20 +64,23 @@ enum-told-2 c = search needs
 returns-2 : tie.Need-returns-2
 returns-2 c =
     let at = c .before .before .before .before in
-    let out = at .before in
-    next-made _ _ _ (c .next-entry .result)
-    (λ S. next-by _ _ (sym (out .before .is-within .ensures) ∙ out .if1 .left) S (at .search .result) _ (at .search .ensures .1 .1) (c .before .before .i .given .1))
-    (c .next-entry .ensures)
+    let out = at .before in (
+      _,
+      c .next-entry .ensures,
+      λ S. next-by _ _ (sym (out .before .is-within .ensures) ∙ out .if1 .left) S (at .search .result) _ (at .search .ensures .1 .1) (c .before .before .i .given .1),
+    )
 
 returns-3 : tie.Need-returns-3
-returns-3 c = λ S. let at = c .before .before in
+returns-3 c =
+    let at = c .before .before in
     let out = at .before in
-    next-by _ _ (sym (out .before .is-within .ensures) ∙ out .if1 .left) S (at .search .result) _ (at .search .ensures .1 .1) (c .enum-told .given .1)
+    (notFound, refl, λ S. next-by _ _ (sym (out .before .is-within .ensures) ∙ out .if1 .left) S (at .search .result) _ (at .search .ensures .1 .1) (c .enum-told .given .1))
 
 returns-4 : tie.Need-returns-4
-returns-4 c = λ S. let at = c .before .before in
+returns-4 c =
+    let at = c .before .before in
     let out = at .before in
-    next-by _ _ (sym (out .before .is-within .ensures) ∙ out .if1 .left) S (at .search .result) _ (at .search .ensures .1 .1) (c .enum-told2 .given .1)
+    (notFound, refl, λ S. next-by _ _ (sym (out .before .is-within .ensures) ∙ out .if1 .left) S (at .search .result) _ (at .search .ensures .1 .1) (c .enum-told2 .given .1))
 
 pub next-key-spec : {M : Type 1} → statement M
 next-key-spec =

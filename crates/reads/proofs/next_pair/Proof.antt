@@ -1,22 +1,23 @@
 -- `reads::next_pair` meets its contract: the array values from place `from` to the one before i are Nil. Assumes nothing.
-use mathlib.Core.Path.{_≡_, refl, sym, ap, subst, _∙_}
+use mathlib.Core.Path.{_≡_, refl, sym, ap, _∙_}
 use mathlib.Core.List.{_++_}
 use Prim.Native.Nat.{ℕ, suc, _+_, _-_}
 use native.Mathlib.Omega.{arith}
 use borrow.Author.Tests.{not-true, not-false}
 use Rattle.value.specs.Same.{isNil}
 use Rattle.key.specs.Canonical.{integer}
-use Rattle.model.specs.Entries.{NextValue, found, first}
+use Rattle.model.specs.Entries.{first}
 use Rattle.model.specs.Growth.{tabulate}
-use Rattle.store.specs.Written.{pairAt, entryAt}
-use Rattle.reads.specs.Reads.{Steps}
+use Rattle.store.specs.Written.{pairAt, entriesIn}
+use Rattle.reads.specs.declared.NextWords.the-variants.{Found}
+use Rattle.reads.specs.Reads.{inWords}
 use Rattle.reads.proofs.Walking.{Walking, walking-turn, walking-found, walking-end}
 use Rattle.reads.proofs.next_pair.Statement.{statement}
 use Rattle.reads.proofs.next_pair.Tie as tie
 
 abbrev Inv-loop : tie.InvT-loop
 Inv-loop array entries sizes from size i₀ i =
-    let rest = tabulate (sizes .count) (entryAt entries) 0 in
+    let rest = entriesIn entries (sizes .count) in
     Walking (first (tabulate (sizes .size - from) (pairAt array) from ++ rest)) (pairAt array) size rest i
 
 abbrev μ-loop : tie.MeasureT-loop
@@ -40,7 +41,7 @@ returns c =
     let loop = at .before .before .loop in
     let live = ap isNil (sym (at .value-at .ensures)) ∙ sym (c .before .is-nil .ensures) ∙ not-true _ (c .if1 .taken) in
     let key : suc (loop .i) ≡ loop .i + 1 = omega arith in
-    walking-found _ _ _ _ _ (loop .inv) (omega arith) live ∙ (λ j. found (integer (key j)) (sym (at .value-at .ensures) j))
+    (λ j. Found (integer (sym key j)) (at .value-at .ensures j)) ∙ ap inWords (sym (walking-found _ _ _ _ _ (loop .inv) (omega arith) live))
 
 add-i : tie.Need-add-i Inv-loop μ-loop
 add-i c = omega arith
@@ -63,9 +64,8 @@ returns-2 c =
     let at = c .before .before in
     let a = at .before .before .before .args in
     let all : a .sizes .count - 0 ≡ a .sizes .count = omega arith in
-    subst (λ (n : NextValue). Steps n (c .next-entry .result))
-    (ap (λ (n : ℕ). first (tabulate n (entryAt (a .entries .now)) 0)) all ∙ sym (walking-end _ _ _ _ _ (at .loop .inv) (c .before .loop-test .left)))
-    (c .next-entry .ensures)
+    c .next-entry .ensures
+    ∙ ap inWords (ap (λ (n : ℕ). first (entriesIn (a .entries .now) n)) all ∙ sym (walking-end _ _ _ _ _ (at .loop .inv) (c .before .loop-test .left)))
 
 pub next-pair-spec : {M : Type 1} → statement M
 next-pair-spec =

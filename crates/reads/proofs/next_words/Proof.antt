@@ -6,7 +6,7 @@ use Rattle.lent.proofs.Says.{said-yes, said-no}
 use Rattle.store.specs.Store.{storeOf}
 use Rattle.store.proofs.Sound.{fits}
 use Rattle.reads.proofs.Keys.{next-start}
-use Rattle.reads.proofs.Walking.{next-of, next-nil-key, next-nan-key, next-made, next-answers}
+use Rattle.reads.proofs.Walking.{next-of, next-nil-key, next-nan-key, next-answers}
 use Rattle.reads.proofs.next_words.Statement.{statement}
 use Rattle.reads.proofs.next_words.Tie as tie
 
@@ -39,7 +39,9 @@ returns-2 : tie.Need-returns-2
 returns-2 c =
     let at = c .before .before .before .before in
     let shape = said-yes (at .before .before .right-shape .ensures) (at .before .if1 .left) in
-    next-answers _ _ _ (c .next-key .result) shape (next-of _ _ _ (sym (at .canonical-key .ensures) ∙ c .before .before .k .given .1)) (c .next-key .ensures)
+    let key = sym (at .canonical-key .ensures) ∙ c .before .before .k .given .1 in
+    let n = c .next-key .ensures in
+    next-answers _ _ shape (n .0) (c .next-key .result) (n .1) (λ S. next-of _ _ _ key ∙ n .2 S)
 
 returns-3 : tie.Need-returns-3
 returns-3 c =
@@ -48,8 +50,7 @@ returns-3 c =
     let key = sym (at .canonical-key .ensures) ∙ c .before .before .before .n .given .1 in
     let a = at .before .before .before .before .before .before .args in
     let s = storeOf (a .array .now) (a .entries .now) (a .index .now) (a .sizes) in
-    next-answers s _ _ (c .next-pair .result) shape (next-nil-key _ _ _ key (c .before .if2 .taken))
-    (next-made s _ _ (c .next-pair .result) (λ S. next-start s) (c .next-pair .ensures))
+    next-answers s _ shape _ (c .next-pair .result) (c .next-pair .ensures) (λ S. next-nil-key _ _ _ key (c .before .if2 .taken) ∙ next-start s)
 
 returns-4 : tie.Need-returns-4
 returns-4 c =

@@ -17,32 +17,31 @@ loop-holds c = read-start _ _ _
 sub-i : tie.Need-sub-i Inv-loop μ-loop
 sub-i c = omega arith
 
+add-n : tie.Need-add-n Inv-loop μ-loop
+add-n c = omega (arith, c .before .loop .inv .inside)
+
+shared-slice-read-n : tie.Need-shared-slice-read-n Inv-loop μ-loop
+shared-slice-read-n c = omega (arith, c .before .before .loop .inv .inside)
+
+cast-n : tie.Need-cast-n Inv-loop μ-loop
+cast-n c = let at = c .before .before in omega (arith, c .shared-slice-known .given (at .before .args .at + (at .loop .i - 1)))
+
 mul-n : tie.Need-mul-n Inv-loop μ-loop
 mul-n c =
-    let at = c .before in
-    omega (arith, read-small _ _ _ _ _ (λ i. omega (arith, at .before .shared-slice-known .given i)) (omega arith) (omega arith) (at .loop .inv))
-
-add-wide : tie.Need-add-wide Inv-loop μ-loop
-add-wide c = omega (arith, c .before .loop .inv .inside)
-
-shared-slice-read-wide : tie.Need-shared-slice-read-wide Inv-loop μ-loop
-shared-slice-read-wide c = omega (arith, c .before .before .loop .inv .inside)
-
-wide-requires : tie.Need-wide-requires Inv-loop μ-loop
-wide-requires c κs = tt
-
-add-n : tie.Need-add-n Inv-loop μ-loop
-add-n c =
-    let at = c .before .before .before in
-    let first = at .before .before .args .at + (at .loop .i - 1) in
     omega
-    (arith, c .before .shared-slice-known2 .given first, c .wide .ensures, read-small _ _ _ _ _ (λ i. omega (arith, at .before .shared-slice-known .given i)) (omega arith) (omega arith) (at .loop .inv))
+    (arith, read-small _ _ _ _ _ (λ i. omega (arith, c .shared-slice-known .given i)) (omega arith) (omega arith) (c .before .before .loop .inv))
+
+add-n-2 : tie.Need-add-n-2 Inv-loop μ-loop
+add-n-2 c =
+    let at = c .before .before in
+    omega
+    (arith, c .shared-slice-known .given (at .before .args .at + (at .loop .i - 1)), read-small _ _ _ _ _ (λ i. omega (arith, c .shared-slice-known .given i)) (omega arith) (omega arith) (at .loop .inv))
 
 loop-less : tie.Need-loop-less Inv-loop μ-loop
 loop-less c = omega arith
 
 loop-again : tie.Need-loop-again Inv-loop μ-loop
-loop-again c = read-turn _ _ _ _ _ _ (omega arith) (omega arith) (c .wide .ensures) (c .before .before .before .loop .inv)
+loop-again c = read-turn _ _ _ _ _ (omega arith) (omega arith) (c .before .before .loop .inv)
 
 returns : tie.Need-returns Inv-loop μ-loop
 returns c = read-end _ _ _ _ _ (omega arith) (c .before .loop .inv)
@@ -55,11 +54,11 @@ number-at-spec =
     μ-loop
     loop-holds
     sub-i
-    mul-n
-    add-wide
-    shared-slice-read-wide
-    wide-requires
     add-n
+    shared-slice-read-n
+    cast-n
+    mul-n
+    add-n-2
     loop-less
     loop-again
     returns)

@@ -1,13 +1,13 @@
 -- `replay::digest_of` meets its contract: a remainder is below the modulus. Assumes nothing.
 use Prim.Native.Nat.{_-_, _<_}
 use native.Mathlib.Omega.{arith}
-use borrow.Author.Needs.{needs}
 use lib.Dec.{lit<}
+use Rattle.replay.specs.Numbers.{modulus}
 use Rattle.replay.proofs.digest_of.Statement.{statement}
 use Rattle.replay.proofs.digest_of.Tie as tie
 
 abbrev Inv-loop : tie.InvT-loop
-Inv-loop bytes n₀ i₀ i-end n i = n < 36028797018963913
+Inv-loop bytes n₀ i₀ i-end n i = n < modulus
 
 abbrev μ-loop : tie.MeasureT-loop
 μ-loop bytes n₀ i₀ i-end n i = i-end - i
@@ -18,14 +18,14 @@ loop-holds c = lit< tt
 mul-n : tie.Need-mul-n Inv-loop μ-loop
 mul-n c = omega arith
 
-shared-slice-read-wide : tie.Need-shared-slice-read-wide Inv-loop μ-loop
-shared-slice-read-wide c = omega arith
+shared-slice-read-n : tie.Need-shared-slice-read-n Inv-loop μ-loop
+shared-slice-read-n c = omega arith
 
-wide-requires : tie.Need-wide-requires Inv-loop μ-loop
-wide-requires c κs = search needs
+cast-n : tie.Need-cast-n Inv-loop μ-loop
+cast-n c = omega (arith, c .shared-slice-known .given (c .before .before .loop .i))
 
 add-n : tie.Need-add-n Inv-loop μ-loop
-add-n c = let known = c .before .shared-slice-known2 .given (c .before .before .before .loop .i) in omega (arith, known, c .wide .ensures)
+add-n c = omega (arith, c .shared-slice-known .given (c .before .before .loop .i))
 
 add-i : tie.Need-add-i Inv-loop μ-loop
 add-i c = omega arith
@@ -47,8 +47,8 @@ digest-of-spec =
     μ-loop
     loop-holds
     mul-n
-    shared-slice-read-wide
-    wide-requires
+    shared-slice-read-n
+    cast-n
     add-n
     add-i
     loop-less

@@ -2,11 +2,12 @@
 use Prim.Native.Nat.{_-_, _<_, _≤_}
 use native.Mathlib.Omega.{arith}
 use lib.ListN.{length}
+use Rattle.replay.specs.Numbers.{modulus}
 use Rattle.replay.proofs.same_as_sets.Statement.{statement}
 use Rattle.replay.proofs.same_as_sets.Tie as tie
 
 abbrev Inv-loop : tie.InvT-loop
-Inv-loop ours stored a₀ b₀ owed₀ a b owed = (a ≤ length ours) × (b ≤ length stored) × (owed < 36028797018963913)
+Inv-loop ours stored a₀ b₀ owed₀ a b owed = (a ≤ length ours) × (b ≤ length stored) × (owed < modulus)
 
 abbrev μ-loop : tie.MeasureT-loop
 μ-loop ours stored a₀ b₀ owed₀ a b owed = length ours - a

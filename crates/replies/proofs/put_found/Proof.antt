@@ -1,8 +1,8 @@
 -- `replies::put_found` meets its contract. Assumes nothing.
 use native.Mathlib.Omega.{arith}
 use borrow.Author.Needs.{needs}
-use Rattle.records.proofs.Numbers.{length-bytes}
-use Rattle.replies.proofs.Appending.{length-value, length-head, length-found-body, appends-then, appends-framed}
+use Rattle.records.proofs.Numbers.{length-bytes, length-value, length-head}
+use Rattle.replies.proofs.Appending.{length-found-body, appends-then, appends-framed}
 use Rattle.replies.proofs.put_found.Statement.{statement}
 use Rattle.replies.proofs.put_found.Tie as tie
 

@@ -1,7 +1,8 @@
 -- `replies::put_got` meets its contract. Assumes nothing.
 use native.Mathlib.Omega.{arith}
 use borrow.Author.Needs.{needs}
-use Rattle.replies.proofs.Appending.{length-value, length-head, appends-framed}
+use Rattle.records.proofs.Numbers.{length-value, length-head}
+use Rattle.replies.proofs.Appending.{appends-framed}
 use Rattle.replies.proofs.put_got.Statement.{statement}
 use Rattle.replies.proofs.put_got.Tie as tie
 

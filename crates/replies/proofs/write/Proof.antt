@@ -1,8 +1,5 @@
 -- `replies::write` meets its contract. Assumes nothing.
-use mathlib.Core.Path.{sym, ap, _∙_}
-use Prim.Native.Nat.{ℕ}
 use borrow.Author.Needs.{needs}
-use Rattle.replies.specs.declared.Reply.the-variants.{Set, Reserved, Fault}
 use Rattle.replies.proofs.Appending.{appends-reply}
 use Rattle.replies.proofs.write.Statement.{statement}
 use Rattle.replies.proofs.write.Tie as tie
@@ -16,8 +13,8 @@ put-got-requires c κs = search needs
 enum-known-reply-2 : tie.Need-enum-known-reply-2
 enum-known-reply-2 c = search needs
 
-wide-requires : tie.Need-wide-requires
-wide-requires c κs = search needs
+cast-put-set : tie.Need-cast-put-set
+cast-put-set c = search needs
 
 put-set-requires : tie.Need-put-set-requires
 put-set-requires c κs = search needs
@@ -49,8 +46,8 @@ put-short-requires-2 c κs = search needs
 enum-known-reply-5 : tie.Need-enum-known-reply-5
 enum-known-reply-5 c = search needs
 
-wide-requires-2 : tie.Need-wide-requires-2
-wide-requires-2 c κs = search needs
+cast-put-short : tie.Need-cast-put-short
+cast-put-short c = search needs
 
 put-short-requires-3 : tie.Need-put-short-requires-3
 put-short-requires-3 c κs = search needs
@@ -58,8 +55,8 @@ put-short-requires-3 c κs = search needs
 enum-known-reply-6 : tie.Need-enum-known-reply-6
 enum-known-reply-6 c = search needs
 
-wide-requires-3 : tie.Need-wide-requires-3
-wide-requires-3 c κs = search needs
+cast-put-short-2 : tie.Need-cast-put-short-2
+cast-put-short-2 c = search needs
 
 put-short-requires-4 : tie.Need-put-short-requires-4
 put-short-requires-4 c κs = search needs
@@ -74,11 +71,7 @@ same-length-2 : tie.Need-same-length-2
 same-length-2 c = search needs
 
 returns-2 : tie.Need-returns-2
-returns-2 c =
-    let put = c .before .before in
-    let wide = put .before in
-    let known = wide .before .before .before in
-    appends-reply (known .reply2 .given .1 ∙ ap (λ (n : ℕ). Set n (known .reply2 .given .0 .1 .0)) (sym (wide .wide .ensures))) (put .put-set .ensures)
+returns-2 c = appends-reply (c .before .before .before .before .before .reply2 .given .1) (c .before .before .put-set .ensures)
 
 same-length-3 : tie.Need-same-length-3
 same-length-3 c = search needs
@@ -108,21 +101,13 @@ same-length-7 : tie.Need-same-length-7
 same-length-7 c = search needs
 
 returns-7 : tie.Need-returns-7
-returns-7 c =
-    let put = c .before .before in
-    let wide = put .before in
-    let known = wide .before .before .before in
-    appends-reply (known .reply5 .given .1 ∙ ap (λ (n : ℕ). Reserved n) (sym (wide .wide2 .ensures))) (put .put-short3 .ensures)
+returns-7 c = appends-reply (c .before .before .before .before .before .reply5 .given .1) (c .before .before .put-short3 .ensures)
 
 same-length-8 : tie.Need-same-length-8
 same-length-8 c = search needs
 
 returns-8 : tie.Need-returns-8
-returns-8 c =
-    let put = c .before .before in
-    let wide = put .before in
-    let known = wide .before .before .before in
-    appends-reply (known .reply6 .given .1 ∙ ap (λ (n : ℕ). Fault n) (sym (wide .wide3 .ensures))) (put .put-short4 .ensures)
+returns-8 c = appends-reply (c .before .before .before .before .before .reply6 .given .1) (c .before .before .put-short4 .ensures)
 
 pub write-spec : {M : Type 1} → statement M
 write-spec =
@@ -131,7 +116,7 @@ write-spec =
     enum-known-reply
     put-got-requires
     enum-known-reply-2
-    wide-requires
+    cast-put-set
     put-set-requires
     enum-known-reply-3
     put-length-requires
@@ -142,10 +127,10 @@ write-spec =
     enum-told-2
     put-short-requires-2
     enum-known-reply-5
-    wide-requires-2
+    cast-put-short
     put-short-requires-3
     enum-known-reply-6
-    wide-requires-3
+    cast-put-short-2
     put-short-requires-4
     same-length
     returns

@@ -15,11 +15,11 @@ use Rattle.session.proofs.serve.Statement.{statement}
 use Rattle.session.proofs.serve.Tie as tie
 
 abbrev Inv-loop : tie.InvT-loop
-Inv-loop array₀ entries₀ index₀ input last output₀ now₀ taken₀ made₀ array entries index output now taken made =
-    Underway (storeOf array₀ entries₀ index₀ now₀) input last output₀ (storeOf array entries index now) output taken made
+Inv-loop array₀ entries₀ index₀ input last output₀ now₀ taken₀ made₀ stopped₀ array entries index output now taken made stopped =
+    Underway (storeOf array₀ entries₀ index₀ now₀) input last output₀ (storeOf array entries index now) output taken made stopped
 
 abbrev μ-loop : tie.MeasureT-loop
-μ-loop array₀ entries₀ index₀ input last output₀ now₀ taken₀ made₀ array entries index output now taken made =
+μ-loop array₀ entries₀ index₀ input last output₀ now₀ taken₀ made₀ stopped₀ array entries index output now taken made stopped =
     length input - taken
 
 -- the places that the answers below go back to: the call, the join before it, and the loop's head
@@ -81,36 +81,6 @@ add-taken c =
     let at = joined served in
     omega (arith, turn-takes (head at .loop .inv) (whole-here at) {a = words served} (served .serve-record .ensures .0), start at .good .1 .1 .1 .1 .0)
 
-same-length : tie.Need-same-length Inv-loop μ-loop
-same-length c =
-    let served = call (c .before) in
-    let at = joined served in
-    served .serve-record .kept .0 ∙ head at .loop .inv .slices .array
-
-same-length-2 : tie.Need-same-length-2 Inv-loop μ-loop
-same-length-2 c =
-    let served = call (c .before) in
-    let at = joined served in
-    served .serve-record .kept .1 .0 ∙ head at .loop .inv .slices .entries
-
-same-length-3 : tie.Need-same-length-3 Inv-loop μ-loop
-same-length-3 c =
-    let served = call (c .before) in
-    let at = joined served in
-    served .serve-record .kept .1 .1 .0 ∙ head at .loop .inv .slices .index
-
-same-length-4 : tie.Need-same-length-4 Inv-loop μ-loop
-same-length-4 c =
-    let served = call (c .before) in
-    let at = joined served in
-    served .serve-record .kept .1 .1 .1 .1 .1 .0 ∙ head at .loop .inv .long
-
-returns : tie.Need-returns Inv-loop μ-loop
-returns c =
-    let served = call (c .before) in
-    let at = joined served in
-    turn-stops (head at .loop .inv) (whole-here at) {a = words served} (served .serve-record .ensures .0) (c .if3 .taken)
-
 loop-less : tie.Need-loop-less Inv-loop μ-loop
 loop-less c =
     let served = call (c .before) in
@@ -125,36 +95,66 @@ loop-again c =
     turn-goes (head at .loop .inv) (whole-here at) {a = words served} (served .serve-record .ensures .0) (served .serve-record .ensures .1) (c .if3 .left)
     (record { array = kept .0; entries = kept .1 .0; index = kept .1 .1 .0 }) (kept .1 .1 .1 .1 .1 .0)
 
+same-length : tie.Need-same-length Inv-loop μ-loop
+same-length c = c .before .loop .inv .slices .array
+
+same-length-2 : tie.Need-same-length-2 Inv-loop μ-loop
+same-length-2 c = c .before .loop .inv .slices .entries
+
+same-length-3 : tie.Need-same-length-3 Inv-loop μ-loop
+same-length-3 c = c .before .loop .inv .slices .index
+
+same-length-4 : tie.Need-same-length-4 Inv-loop μ-loop
+same-length-4 c = c .before .loop .inv .long
+
+returns : tie.Need-returns Inv-loop μ-loop
+returns c = ends-full (c .before .loop .inv) (c .loop-test .left)
+
 same-length-5 : tie.Need-same-length-5 Inv-loop μ-loop
-same-length-5 c = c .before .loop .inv .slices .array
+same-length-5 c = c .before .before .before .before .before .loop .inv .slices .array
 
 same-length-6 : tie.Need-same-length-6 Inv-loop μ-loop
-same-length-6 c = c .before .loop .inv .slices .entries
+same-length-6 c = c .before .before .before .before .before .loop .inv .slices .entries
 
 same-length-7 : tie.Need-same-length-7 Inv-loop μ-loop
-same-length-7 c = c .before .loop .inv .slices .index
+same-length-7 c = c .before .before .before .before .before .loop .inv .slices .index
 
 same-length-8 : tie.Need-same-length-8 Inv-loop μ-loop
-same-length-8 c = c .before .loop .inv .long
+same-length-8 c = c .before .before .before .before .before .loop .inv .long
 
 returns-2 : tie.Need-returns-2 Inv-loop μ-loop
-returns-2 c = ends-full (c .before .loop .inv) (c .loop-test .left)
+returns-2 c =
+    ends-waiting (c .before .before .before .before .before .loop .inv) (not-true _ (c .before .before .before .if1 .taken)) (sym (c .before .is-whole .ensures) ∙ not-true _ (c .if2 .taken))
 
 same-length-9 : tie.Need-same-length-9 Inv-loop μ-loop
-same-length-9 c = c .before .before .before .before .before .loop .inv .slices .array
+same-length-9 c =
+    let served = call (c .before) in
+    let at = joined served in
+    served .serve-record .kept .0 ∙ head at .loop .inv .slices .array
 
 same-length-10 : tie.Need-same-length-10 Inv-loop μ-loop
-same-length-10 c = c .before .before .before .before .before .loop .inv .slices .entries
+same-length-10 c =
+    let served = call (c .before) in
+    let at = joined served in
+    served .serve-record .kept .1 .0 ∙ head at .loop .inv .slices .entries
 
 same-length-11 : tie.Need-same-length-11 Inv-loop μ-loop
-same-length-11 c = c .before .before .before .before .before .loop .inv .slices .index
+same-length-11 c =
+    let served = call (c .before) in
+    let at = joined served in
+    served .serve-record .kept .1 .1 .0 ∙ head at .loop .inv .slices .index
 
 same-length-12 : tie.Need-same-length-12 Inv-loop μ-loop
-same-length-12 c = c .before .before .before .before .before .loop .inv .long
+same-length-12 c =
+    let served = call (c .before) in
+    let at = joined served in
+    served .serve-record .kept .1 .1 .1 .1 .1 .0 ∙ head at .loop .inv .long
 
 returns-3 : tie.Need-returns-3 Inv-loop μ-loop
 returns-3 c =
-    ends-waiting (c .before .before .before .before .before .loop .inv) (not-true _ (c .before .before .before .if1 .taken)) (sym (c .before .is-whole .ensures) ∙ not-true _ (c .if2 .taken))
+    let served = call (c .before) in
+    let at = joined served in
+    turn-stops (head at .loop .inv) (whole-here at) {a = words served} (served .serve-record .ensures .0) (c .if3 .taken)
 
 pub serve-spec : {M : Type 1} → statement M
 serve-spec =
@@ -173,13 +173,13 @@ serve-spec =
     part-serve-record-end
     serve-record-requires
     add-taken
+    loop-less
+    loop-again
     same-length
     same-length-2
     same-length-3
     same-length-4
     returns
-    loop-less
-    loop-again
     same-length-5
     same-length-6
     same-length-7

@@ -1,7 +1,7 @@
 -- `store::check` meets its contract: the clauses are soundness. Assumes nothing.
 use borrow.Author.Needs.{needs}
 use Rattle.lent.proofs.Says.{says-no, says-same, said-yes, said-no}
-use Rattle.store.proofs.Sound.{clauses-sound, sound-clauses}
+use Rattle.store.proofs.Sound.{clauses-sound, sound-clauses, sound-shaped}
 use Rattle.store.proofs.check.Statement.{statement}
 use Rattle.store.proofs.check.Tie as tie
 
@@ -9,7 +9,7 @@ right-shape-requires : tie.Need-right-shape-requires
 right-shape-requires c κs = search needs
 
 returns : tie.Need-returns
-returns c = says-no (λ S. said-no (c .before .right-shape .ensures) (c .if1 .taken) (sound-clauses _ S .shape))
+returns c = says-no (λ S. said-no (c .before .right-shape .ensures) (c .if1 .taken) (sound-shaped _ S))
 
 clauses-hold-requires : tie.Need-clauses-hold-requires
 clauses-hold-requires c κs = said-yes (c .before .right-shape .ensures) (c .if1 .left)

@@ -3,7 +3,7 @@ use mathlib.Core.Path.{sym, ap, _∙_}
 use borrow.Author.Needs.{needs}
 use Rattle.store.specs.Store.{storeOf}
 use Rattle.table.specs.declared.NextValue.the-variants.{Found, Last, NotFound, No}
-use Rattle.table.specs.Values.{nextOf}
+use Rattle.table.specs.Values.{nextValueOf}
 use Rattle.table.proofs.Faces.{nexts}
 use Rattle.table.proofs.next.Statement.{statement}
 use Rattle.table.proofs.next.Tie as tie
@@ -39,7 +39,7 @@ returns c =
     let a = call .before .before .before .before .before .args in
     nexts (storeOf (a .array .now) (a .entries .now) (a .index .now) (a .sizes)) (a .key) (call .before .encode .result) (call .before .encode .ensures)
     (call .next-words .result) (Found (c .before .value-of .result) (c .value-of2 .result)) (call .next-words .ensures)
-    ((λ j. Found (c .before .value-of .ensures j) (c .value-of2 .ensures j)) ∙ sym (ap nextOf (k .k .given .1)))
+    ((λ j. Found (c .before .value-of .ensures j) (c .value-of2 .ensures j)) ∙ sym (ap nextValueOf (k .k .given .1)))
 
 returns-2 : tie.Need-returns-2
 returns-2 c =
@@ -47,7 +47,7 @@ returns-2 c =
     let a = call .before .before .before .before .before .args in
     nexts (storeOf (a .array .now) (a .entries .now) (a .index .now) (a .sizes)) (a .key) (call .before .encode .result) (call .before .encode .ensures)
     (call .next-words .result) Last (call .next-words .ensures)
-    (sym (ap nextOf (c .enum-told .given .1)))
+    (sym (ap nextValueOf (c .enum-told .given .1)))
 
 returns-3 : tie.Need-returns-3
 returns-3 c =
@@ -55,7 +55,7 @@ returns-3 c =
     let a = call .before .before .before .before .before .args in
     nexts (storeOf (a .array .now) (a .entries .now) (a .index .now) (a .sizes)) (a .key) (call .before .encode .result) (call .before .encode .ensures)
     (call .next-words .result) NotFound (call .next-words .ensures)
-    (sym (ap nextOf (c .enum-told2 .given .1)))
+    (sym (ap nextValueOf (c .enum-told2 .given .1)))
 
 returns-4 : tie.Need-returns-4
 returns-4 c =
@@ -64,7 +64,7 @@ returns-4 c =
     let a = call .before .before .before .before .before .args in
     nexts (storeOf (a .array .now) (a .entries .now) (a .index .now) (a .sizes)) (a .key) (call .before .encode .result) (call .before .encode .ensures)
     (call .next-words .result) (No (n .n .given .0 .0)) (call .next-words .ensures)
-    (sym (ap nextOf (n .n .given .1)))
+    (sym (ap nextValueOf (n .n .given .1)))
 
 pub next-spec : {M : Type 1} → statement M
 next-spec =

@@ -1,8 +1,9 @@
 -- `trace::run` meets its contract. The loop's invariant is `Running`; it counts turns down. Assumes nothing.
 use mathlib.Core.Path.{refl, sym, _∙_}
 use lib.Dec.{lit<}
+use borrow.Author.Count.{falls-down}
 use Rattle.store.specs.Store.{slices, storeOf}
-use Rattle.trace.proofs.Turning.{Running, counts-down}
+use Rattle.trace.proofs.Turning.{Running}
 use Rattle.trace.proofs.run.Statement.{statement}
 use Rattle.trace.proofs.run.Tie as tie
 
@@ -55,7 +56,7 @@ sub-turns : tie.Need-sub-turns Inv-loop μ-loop
 sub-turns c = c .before .before .before .before .before .before .before .before .before .before .before .before .before .before .before .before .loop-test .taken
 
 loop-less : tie.Need-loop-less Inv-loop μ-loop
-loop-less c = counts-down _ (c .before .before .before .before .before .before .before .before .before .before .before .before .before .before .before .before .loop-test .taken)
+loop-less c = falls-down _ (c .before .before .before .before .before .before .before .before .before .before .before .before .before .before .before .before .loop-test .taken)
 
 loop-again : tie.Need-loop-again Inv-loop μ-loop
 loop-again c =

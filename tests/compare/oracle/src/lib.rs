@@ -6,7 +6,17 @@ extern crate self as gc_arena;
 pub mod objects;
 pub mod value;
 pub mod table {
-    pub mod raw;
+    pub mod raw {
+        include!("table/raw.rs");
+
+        // Inside the module, since no call of the original tells them.
+        impl RawTable<'_> {
+            /// The array's length, how many keys the map has, cleared ones too, and for how many it has room.
+            pub fn sizes(&self) -> [usize; 3] {
+                [self.array.len(), self.map.len(), self.map.capacity()]
+            }
+        }
+    }
     #[allow(clippy::module_inception)]
     mod table;
     pub use self::raw::{InvalidTableKey, NextValue};

@@ -1,5 +1,6 @@
 //! Answers traces by the original's table. Standard input, for each trace: a 32-bit number for the hashing, the 32-bit length of the records, and 01's trace records, each of them right.
-//! One kind more, 6, walks by the original's `Iter` and is answered by the replies of the `next` calls that it makes. Standard output, for each trace: a 32-bit length and the replies.
+//! Three kinds more: 6 walks by the original's `Iter` and is answered by the replies of the `next` calls that it makes; 7 answers the sizes, three 64-bit numbers; 8 is `reserve_array` (32-bit n).
+//! Standard output, for each trace: a 32-bit length and the replies.
 //! Where the table panics, a record of kind 512 with the message is the last.
 use oracle::{Callback, Closure, Function, Gc, InvalidTableKey, Mutation, String, Table, Thread, UserData, Value};
 use oracle::{mutate, seed, table::NextValue};
@@ -12,6 +13,8 @@ use std::{
 const REPLY: u16 = 256;
 const WALK: u16 = 6;
 const NEXT: u16 = 4;
+const SIZES: u16 = 7;
+const RESERVE_ARRAY: u16 = 8;
 const PANIC: u16 = 512;
 
 fn value<'gc>(bytes: &[u8]) -> Value<'gc> {
@@ -96,8 +99,16 @@ fn reply<'gc>(mc: &Mutation<'gc>, table: Table<'gc>, kind: u16, body: &[u8]) -> 
             NextValue::NotFound => out.push(2),
         },
         5 => {
-            let n = u32::from_le_bytes(body.try_into().unwrap());
-            table.into_inner().borrow_mut(mc).raw_table.reserve_map(n as usize);
+            table.into_inner().borrow_mut(mc).raw_table.reserve_map(number(body).0);
+            out.push(0);
+        }
+        SIZES => {
+            for size in table.into_inner().borrow().raw_table.sizes() {
+                out.extend_from_slice(&(size as u64).to_le_bytes());
+            }
+        }
+        RESERVE_ARRAY => {
+            table.into_inner().borrow_mut(mc).raw_table.reserve_array(number(body).0);
             out.push(0);
         }
         kind => panic!("no call is of kind {kind}"),

@@ -48,8 +48,8 @@ use Rattle.iter.proofs.Walker as T
 use Rattle.iter.proofs.Walker.Laws as T′
 use Rattle.iter.proofs.Stepped as S
 use Rattle.iter.proofs.Stepped.Laws as S′
-use Rattle.iter.proofs.Walked as D
-use Rattle.iter.proofs.Walked.Laws as D′
+use Rattle.iter.proofs.WalkerAnswer as D
+use Rattle.iter.proofs.WalkerAnswer.Laws as D′
 use Rattle.iter.proofs.step as step
 use Rattle.iter.proofs.step.Symbol as step-def
 use Rattle.iter.proofs.step.Symbol.{name as #iter·step}

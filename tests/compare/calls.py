@@ -1,0 +1,127 @@
+"""Sequences of calls as docs/DIFFERENCES.md writes them, and the replies of both sides to them, as texts. Assumes that no call of a sequence is faulty.
+
+Calls, with a semicolon between: set KEY .., each to true; clear KEY .., each set to nil; get KEY; next KEY; length; reserve N; and two that no trace has: sizes, and reserve_array N, which the original alone has.
+Keys: nil, nan, s1 and t1 (the String and the Table with handle 1), 4 and 2^62 (Integers), I (the largest), 0.5 and 2.0^63 (Numbers), and rows of them, s1..s27 and 2^1..2^62.
+"""
+
+import re
+import struct
+import subprocess
+
+from compare import original
+from limits.sequences import YES, lent
+from reading import trace
+from reading.rules import INTEGER, LARGEST, NOTHING, NUMBER, STRING, integer, number
+
+TABLE = STRING + 1
+OBJECTS = {"s": STRING, "t": TABLE}
+NAMED = {"nil": NOTHING, "nan": number(float("nan")), "I": integer(LARGEST)}
+ROW = re.compile(r"(s|t|2\^)(\d+)\.\.\1(\d+)")
+# Of the program `limits`: the kind of record that begins a sequence, and the words of each record.
+FRESH, FIELDS = 6, 5
+
+
+def row_of(word):
+    """The words of a row of keys, or the one word that it is."""
+    row = ROW.fullmatch(word)
+    return [f"{row[1]}{n}" for n in range(int(row[2]), int(row[3]) + 1)] if row else [word]
+
+
+def key_of(word):
+    if word in NAMED:
+        return NAMED[word]
+    if word[0] in OBJECTS:
+        return OBJECTS[word[0]], int(word[1:])
+    base, power, exponent = word.partition("^")
+    value = (float(base) if "." in base else int(base)) ** (int(exponent) if power else 1)
+    return number(value) if "." in base else integer(value)
+
+
+def word_of(value):
+    """A value's text."""
+    kind, payload = value
+    for word, named in {**NAMED, "true": YES}.items():
+        if value == named:
+            return word
+    if kind == INTEGER:
+        return str(struct.unpack("<q", struct.pack("<Q", payload))[0])
+    if kind == NUMBER:
+        return repr(struct.unpack("<d", struct.pack("<Q", payload))[0])
+    return next(letter for letter in OBJECTS if OBJECTS[letter] == kind) + str(payload)
+
+
+def calls_of(text):
+    """The calls of a sequence: name, and what is passed."""
+    calls = []
+    for name, *words in map(str.split, text.split(";")):
+        words = [key for word in words for key in row_of(word)]
+        if name in ("set", "clear"):
+            calls += [("set", key_of(word), YES if name == "set" else NOTHING) for word in words]
+        elif name in ("length", "sizes"):
+            calls.append((name,))
+        else:
+            calls += [(name, int(word) if name.startswith("reserve") else key_of(word)) for word in words]
+    return calls
+
+
+def record_of(call):
+    """As the oracle takes it."""
+    name, *passed = call
+    if name == "sizes":
+        return trace.record(original.SIZES)
+    if name == "reserve_array":
+        return trace.record(original.RESERVE_ARRAY, struct.pack("<I", *passed))
+    return getattr(trace, name)(*passed)
+
+
+def sizes_text(size, entries, room):
+    return f"array {size}, entries {entries} of {room}"
+
+
+def reply_text(kind, body):
+    if kind == original.PANIC:
+        return "panic: " + body.decode()
+    if kind == trace.FAULT:
+        return f"fault {body[0]}"
+    kind -= trace.REPLY
+    if kind == original.SIZES:
+        return sizes_text(*struct.unpack("<QQQ", body))
+    if kind == trace.LENGTH:
+        return word_of((INTEGER, *struct.unpack("<Q", body)))
+    if kind == trace.GET:
+        return word_of(*trace.values(body))
+    if kind == trace.NEXT:
+        return ("", "last", "not found")[body[0]] or word_of(trace.values(body[1:])[0])
+    return f"refused {body[0]}" if body[0] else "done"
+
+
+def by_original(sequences):
+    """The original's replies to sequences, each with its hash seed; after a panic there are no more."""
+    outs = original.replies([(seed, b"".join(map(record_of, calls))) for seed, calls in sequences])
+    return [[reply_text(*reply) for reply in trace.records(out)] for out in outs]
+
+
+def by_trace(program, calls):
+    """The trace program's replies. There is no reserve_array here, since the array's room is lent: it is passed over."""
+    given = b"".join(record_of(call) for call in calls if call[0] != "reserve_array")
+    out = subprocess.run(program, input=given, stdout=subprocess.PIPE, check=True).stdout
+    found = (reply_text(*reply) for reply in trace.records(out))
+    return ["no such call" if call[0] == "reserve_array" else next(found, "no reply") for call in calls]
+
+
+def sizes_here(limits, calls):
+    """A, E and M that the program `limits` tells after these calls, with the trace program's room lent."""
+    words = [FRESH, *lent(trace.ROOM, trace.ENTRY_ROOM), 0]
+    for name, *passed in calls:
+        flat = [trace.KINDS[name]] + [word for part in passed for word in (part if isinstance(part, tuple) else (part,))]
+        words += flat + [0] * (FIELDS - len(flat))
+    out = subprocess.run(limits, input=struct.pack(f"<{len(words)}Q", *words), stdout=subprocess.PIPE, check=True).stdout
+    size, allowance, count = out.decode().splitlines()[-1].rpartition(", ")[2].split()
+    return sizes_text(size, count, allowance)
+
+
+def by_ours(program, limits, calls):
+    """Our replies; the sizes, which no trace tells, by the program `limits`, where they come last."""
+    if calls[-1] != ("sizes",):
+        return by_trace(program, calls)
+    return by_trace(program, calls[:-1]) + [sizes_here(limits, calls[:-1])]
