@@ -15,6 +15,9 @@ pub const NO_ROOM: u8 = 3;
 
 pub const WRONG_SHAPE: u8 = 4;
 
+// Not the paper's, which speaks of values alone: the words that were passed are no value's.
+pub const NO_VALUE: u8 = 15;
+
 // A key's canonical form, or why it has none.
 pub enum CanonicalKey {
     Key(Words),

@@ -23,7 +23,7 @@ use Rattle.model.specs.Growth.{optimalSize, stays, rehashed, grownAllowa
 use Rattle.model.specs.Calls.{writeArray, writeEntry, append, placeIn, grow, setKey, setOf, reserveOf}
 use Rattle.model.specs.WellFormed.{Fair, ZeroOrPower, WellFormed, DecodesBoth, Canonical, Outside}
 use Rattle.model.proofs.Entries.{put-keys, length-put, keys-append, length-keep, distinct-snoc, distinct-keep, each-append, each-keep, each-put, each-set, each-tabulate, each-first, each-from}
-use Rattle.model.proofs.Map.{set-key, set-no-key, rehashed-length, absent-still, set-sets}
+use Rattle.model.proofs.Map.{by-set, rehashed-length, absent-still, set-sets}
 use Rattle.model.proofs.Size.{size-le, size-power}
 
 nil-decodes : Decodes nil
@@ -175,11 +175,11 @@ setKey-kept room t k v w dk dv c =
     rw f (placeIn-kept room t (rehashed t S) k v w
     (rehashed-kept room t S (size-le room t k) (size-power room t k) w) dk dv c (absent-still t S k n)))))))))
 
-pub setOf-kept : (room : Room) (t : Table) (key v : Words) → WellFormed room t → Decodes key → Decodes v → WellFormed room ((setOf room t key v) .table)
-setOf-kept room t key v w dk dv =
-    by-key key
-    (λ k e. rw (set-key room t key v k e) (setKey-kept room t k v w (canonical-decodes key k dk e) dv (canonical-own key k e)))
-    (λ n e. rw (set-no-key room t key v n e) w)
+pub setOf-kept : (room : Room) (t : Table) (key v : Words) → WellFormed room t → WellFormed room ((setOf room t key v) .table)
+setOf-kept room t key v w =
+    by-set room t key v
+    (λ k dk dv e q. rw q (setKey-kept room t k v w (canonical-decodes key k dk e) dv (canonical-own key k e)))
+    (λ n q. rw q w)
 
 pub reserve-kept : (room : Room) (t : Table) (n : ℕ) → WellFormed room t → WellFormed room ((reserveOf room t n) .table)
 unfolding reserveOf
@@ -209,9 +209,9 @@ get-decodes room t key w = by-key key (λ k e. rw e (lookup-decodes room t k w))
 
 pub previous-decodes : (room : Room) (t : Table) (key v : Words) → WellFormed room t → Decodes ((setOf room t key v) .previous)
 previous-decodes room t key v w =
-    by-key key
-    (λ k e. rw (set-key room t key v k e) (elim (set-sets room t k v w) [ inl s ↦ rw (s .previously) (lookup-decodes room t k w) | inr p ↦ rw p nil-decodes ]))
-    (λ n e. rw (set-no-key room t key v n e) nil-decodes)
+    by-set room t key v
+    (λ k dk dv e q. rw q (elim (set-sets room t k v w) [ inl s ↦ rw (s .previously) (lookup-decodes room t k w) | inr p ↦ rw p nil-decodes ]))
+    (λ n q. rw q nil-decodes)
 
 array-decodes : (vs : List Words) (n : ℕ) → Each Decodes vs → Each DecodesBoth (arrayPairs n vs)
 array-decodes [] n a = tt

@@ -9,29 +9,47 @@ use native.Mathlib.Omega.{arith}
 use lib.Dec.{leb, ltb}
 use lib.ListN.{length, length-set}
 use Rattle.value.specs.declared.Words.{Words}
+use Rattle.value.specs.Encoding.{decodes, Decodes}
 use Rattle.value.specs.Same.{same, nil, isNil}
-use Rattle.value.proofs.Cases.{caseb}
+use Rattle.value.proofs.Cases.{caseb, and-left, and-right}
 use Rattle.value.proofs.Same.{same-eq, not-live}
-use Rattle.key.specs.Refusals.{noRoom}
+use Rattle.key.specs.Refusals.{noRoom, noValue}
 use Rattle.key.specs.declared.CanonicalKey.the-variants.{Key, No}
 use Rattle.key.specs.Canonical.{integer, largest, canonicalKey}
+use Rattle.key.proofs.Own.{by-key}
 use Rattle.model.specs.Entries.{Entry, keysOf, distinct, has, find, keep, live}
 use Rattle.model.specs.Table.{Room, Table, within, pairs, lookup}
 use Rattle.model.specs.Growth.{optimalSize, stays, rehashed, grownAllowance}
-use Rattle.model.specs.Calls.{Outcome, refuse, writeArray, writeEntry, append, placeIn, grow, setKey, setOf, reserveOf}
+use Rattle.model.specs.Calls.{Outcome, refuse, writeArray, writeEntry, append, placeIn, grow, setKey, areValues, setOf, reserveOf}
 use Rattle.model.specs.WellFormed.{WellFormed}
 use Rattle.model.proofs.Entries.{updated, find-put, find-snoc, has-keep, find-keep, length-tabulate, getD-tabulate}
 use Rattle.model.proofs.Size.{size-le}
 use Rattle.model.proofs.Array.{Inside, inside, within-more, has-pairs, lookup-within, lookup-array, lookup-outside, lookup-absent, find-pairs, pairs-writeArray, pairs-writeEntry, pairs-append}
 
--- ---- set by the canonical key, or by the refusal
-pub set-key : (room : Room) (t : Table) (key v k : Words) → canonicalKey key ≡ Key k → setOf room t key v ≡ setKey room t k v
+-- ---- set of words that are no value's, by the canonical key, or by the refusal
+pub set-no-value : (room : Room) (t : Table) (key v : Words) → areValues key v ≡ false → setOf room t key v ≡ refuse noValue t
 unfolding setOf
-set-key room t key v k e = rw e
+set-no-value room t key v d = rw d
 
-pub set-no-key : (room : Room) (t : Table) (key v : Words) (n : ℕ) → canonicalKey key ≡ No n → setOf room t key v ≡ refuse n t
-unfolding setOf
-set-no-key room t key v n e = rw e
+module _ (room : Room) (t : Table) (key v : Words) (d : areValues key v ≡ true) where
+  pub set-key : (k : Words) → canonicalKey key ≡ Key k → setOf room t key v ≡ setKey room t k v
+  unfolding setOf
+  set-key k e = rw (d, e)
+
+  pub set-no-key : (n : ℕ) → canonicalKey key ≡ No n → setOf room t key v ≡ refuse n t
+  unfolding setOf
+  set-no-key n e = rw (d, e)
+
+-- what is not refused outright goes by the canonical key of a value
+pub by-set : {P : Type 0} (room : Room) (t : Table) (key v : Words)
+    → ((k : Words) → Decodes key → Decodes v → canonicalKey key ≡ Key k → setOf room t key v ≡ setKey room t k v → P)
+    → ((n : ℕ) → setOf room t key v ≡ refuse n t → P) → P
+by-set room t key v f g =
+    caseb (areValues key v)
+    (λ d. by-key key
+    (λ k e. f k (and-left (decodes key) (decodes v) d) (and-right (decodes key) (decodes v) d) e (set-key room t key v d k e))
+    (λ n e. g n (set-no-key room t key v d n e)))
+    (λ d. g noValue (set-no-value room t key v d))
 
 -- ---- the three writes
 module _ (t : Table) (k v j : Words) (h : length (t .array) ≤ largest) where

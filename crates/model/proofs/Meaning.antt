@@ -2,6 +2,7 @@
 -- every key that is this one, and elsewhere what it gave before; what the set answers is what get gave before. Assumes nothing.
 use mathlib.Core.Path.{_≡_, sym, _∙_}
 use mathlib.Core.Logic.{_⊎_, inl, inr}
+use mathlib.Core.Bool.{true}
 use Prim.Native.Nat.{ℕ}
 use Rattle.value.specs.declared.Words.{Words}
 use Rattle.value.specs.Same.{nil}
@@ -11,16 +12,16 @@ use Rattle.key.specs.Refusals.{noRoom}
 use Rattle.key.specs.Canonical.{canonicalKey}
 use Rattle.key.proofs.Own.{by-key}
 use Rattle.model.specs.Table.{Room, Table, lookup, getOf}
-use Rattle.model.specs.Calls.{refuse, setKey, setOf, reserveOf}
+use Rattle.model.specs.Calls.{refuse, setKey, areValues, setOf, reserveOf}
 use Rattle.model.specs.WellFormed.{WellFormed}
 use Rattle.model.specs.Means.{Means}
 use Rattle.model.proofs.Map.{set-key, Sets, set-sets, reserve-lookup}
 use Rattle.model.proofs.Next.{get-key}
 
 -- a set of a key is done, and means this, or is refused for want of room
-pub set-means : (room : Room) (t : Table) (key k v : Words) → WellFormed room t → canonicalKey key ≡ Key k
+pub set-means : (room : Room) (t : Table) (key k v : Words) → WellFormed room t → areValues key v ≡ true → canonicalKey key ≡ Key k
     → (((setOf room t key v) .refusal ≡ 0) × Means t key k v (setOf room t key v)) ⊎ (setOf room t key v ≡ refuse noRoom t)
-set-means room t key k v w c = rw (set-key room t key v k c) (go (set-sets room t k v w))
+set-means room t key k v w d c = rw (set-key room t key v d k c) (go (set-sets room t k v w))
   where
     go : Sets (lookup t) k v (setKey room t k v) ⊎ (setKey room t k v ≡ refuse noRoom t)
         → (((setKey room t k v) .refusal ≡ 0) × Means t key k v (setKey room t k v)) ⊎ (setKey room t k v ≡ refuse noRoom t)

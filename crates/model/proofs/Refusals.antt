@@ -1,5 +1,5 @@
--- Refusals: 1 and 2 exactly for a key that is Nil or NaN, 3 exactly under 01's step 5, for reserve exactly when L + n > e; and a refusal
--- answers the table as it was ('Refusal numbers'). Assumes nothing.
+-- Refusals: 15 exactly for words that are no value's, then 1 and 2 exactly for a key that is Nil or NaN, 3 exactly under 01's step 5, for
+-- reserve exactly when L + n > e; and a refusal answers the table as it was ('Refusal numbers'). Assumes nothing.
 use mathlib.Core.Path.{_≡_, refl, ap, _∙_}
 use mathlib.Core.Bool.{true}
 use mathlib.Core.Logic.{_⊎_, inl, inr}
@@ -19,10 +19,10 @@ use Rattle.key.proofs.Own.{by-key, no-key, nil-no-key, nan-no-key}
 use Rattle.model.specs.Entries.{has, keep, live}
 use Rattle.model.specs.Table.{Room, Table, within, lookup}
 use Rattle.model.specs.Growth.{optimalSize, rehashed}
-use Rattle.model.specs.Calls.{Outcome, done, refuse, placeIn, grow, setKey, setOf, reserveOf}
+use Rattle.model.specs.Calls.{Outcome, done, refuse, placeIn, grow, setKey, areValues, setOf, reserveOf}
 use Rattle.model.specs.WellFormed.{WellFormed}
-use Rattle.model.specs.Refused.{Full, Refused, nilKey, nanKey, full, NoSpace}
-use Rattle.model.proofs.Map.{set-key, set-no-key, Sets, set-sets}
+use Rattle.model.specs.Refused.{Full, Refused, notValues, nilKey, nanKey, full, NoSpace}
+use Rattle.model.proofs.Map.{set-no-value, set-key, set-no-key, by-set, Sets, set-sets}
 
 zero-three : {X : Type 0} → _≡_ {A = ℕ} 0 3 → X
 zero-three p = absurd (differ p)
@@ -56,30 +56,33 @@ full-refused room t k v x =
 -- ---- for these reasons, and for no other
 pub set-refused : (room : Room) (t : Table) (key v : Words) → WellFormed room t → ((setOf room t key v) .refusal ≡ 0 → ⊥) → Refused room t key v ((setOf room t key v) .refusal)
 set-refused room t key v w r =
-    by-key key
-    (λ k e. let q : setOf room t key v ≡ setKey room t k v = set-key room t key v k e in rw q (by-room k e (rw q at r) (set-sets room t k v w)))
-    (λ n e. rw (set-no-key room t key v n e) (by-kind n (no-key key n e)))
+    caseb (areValues key v)
+    (λ d. by-key key
+    (λ k e. let q : setOf room t key v ≡ setKey room t k v = set-key room t key v d k e in rw q (by-room d k e (rw q at r) (set-sets room t k v w)))
+    (λ n e. rw (set-no-key room t key v d n e) (by-kind d n (no-key key n e))))
+    (λ d. rw (set-no-value room t key v d) (notValues d))
   where
-    by-room : (k : Words) → canonicalKey key ≡ Key k → ((setKey room t k v) .refusal ≡ 0 → ⊥) → Sets (lookup t) k v (setKey room t k v) ⊎ (setKey room t k v ≡ refuse noRoom t)
+    by-room : areValues key v ≡ true → (k : Words) → canonicalKey key ≡ Key k → ((setKey room t k v) .refusal ≡ 0 → ⊥) → Sets (lookup t) k v (setKey room t k v) ⊎ (setKey room t k v ≡ refuse noRoom t)
         → Refused room t key v ((setKey room t k v) .refusal)
-    by-room k e r (inl m) = absurd (r (m .ok))
-    by-room k e r (inr p) = rw p (full k e (refused-full room t k v (ap (λ (o : Outcome). o .refusal) p)))
+    by-room d k e r (inl m) = absurd (r (m .ok))
+    by-room d k e r (inr p) = rw p (full d k e (refused-full room t k v (ap (λ (o : Outcome). o .refusal) p)))
 
-    by-kind : (n : ℕ) → ((key .kind ≡ 0) × (n ≡ keyIsNil)) ⊎ ((key .kind ≡ 3) × (nanBits binary64 (key .payload) ≡ true) × (n ≡ keyIsNaN)) → Refused room t key v n
-    by-kind n (inl a) = rw (a .1) (nilKey (a .0))
-    by-kind n (inr a) = rw (a .2) (nanKey (a .0) (a .1))
+    by-kind : areValues key v ≡ true → (n : ℕ) → ((key .kind ≡ 0) × (n ≡ keyIsNil)) ⊎ ((key .kind ≡ 3) × (nanBits binary64 (key .payload) ≡ true) × (n ≡ keyIsNaN)) → Refused room t key v n
+    by-kind d n (inl a) = rw (a .1) (nilKey d (a .0))
+    by-kind d n (inr a) = rw (a .2) (nanKey d (a .0) (a .1))
 
 pub refused-set : (room : Room) (t : Table) (key v : Words) {n : ℕ} → Refused room t key v n → (setOf room t key v) .refusal ≡ n
-refused-set room t key v (nilKey h) = ap (λ (o : Outcome). o .refusal) (set-no-key room t key v keyIsNil (nil-no-key key h))
-refused-set room t key v (nanKey h n) = ap (λ (o : Outcome). o .refusal) (set-no-key room t key v keyIsNaN (nan-no-key key h n))
-refused-set room t key v (full k e f) = ap (λ (o : Outcome). o .refusal) (set-key room t key v k e) ∙ full-refused room t k v f
+refused-set room t key v (notValues d) = ap (λ (o : Outcome). o .refusal) (set-no-value room t key v d)
+refused-set room t key v (nilKey d h) = ap (λ (o : Outcome). o .refusal) (set-no-key room t key v d keyIsNil (nil-no-key key h))
+refused-set room t key v (nanKey d h n) = ap (λ (o : Outcome). o .refusal) (set-no-key room t key v d keyIsNaN (nan-no-key key h n))
+refused-set room t key v (full d k e f) = ap (λ (o : Outcome). o .refusal) (set-key room t key v d k e) ∙ full-refused room t k v f
 
 -- what a refused set leaves is the table as it was
 pub set-unchanged : (room : Room) (t : Table) (key v : Words) → WellFormed room t → ((setOf room t key v) .refusal ≡ 0 → ⊥) → (setOf room t key v) .table ≡ t
 set-unchanged room t key v w r =
-    by-key key
-    (λ k e. let q : setOf room t key v ≡ setKey room t k v = set-key room t key v k e in ap (λ (o : Outcome). o .table) q ∙ by-room k (rw q at r) (set-sets room t k v w))
-    (λ n e. ap (λ (o : Outcome). o .table) (set-no-key room t key v n e))
+    by-set room t key v
+    (λ k dk dv e q. ap (λ (o : Outcome). o .table) q ∙ by-room k (rw q at r) (set-sets room t k v w))
+    (λ n q. ap (λ (o : Outcome). o .table) q)
   where
     by-room : (k : Words) → ((setKey room t k v) .refusal ≡ 0 → ⊥) → Sets (lookup t) k v (setKey room t k v) ⊎ (setKey room t k v ≡ refuse noRoom t) → (setKey room t k v) .table ≡ t
     by-room k r (inl m) = absurd (r (m .ok))

@@ -1,13 +1,14 @@
 -- The calls that write: set with its refusals in order, and reserve (01, 'Calls' and 'Growth', step 5). A refusal answers the table
 -- as it was. Assumes nothing.
-use mathlib.Core.Bool.{cond}
+use mathlib.Core.Bool.{Bool, cond, _&&_}
 use mathlib.Core.List.{[], _∷_, _++_}
 use Prim.Native.Nat.{ℕ, _+_, _-_, max}
 use lib.Dec.{leb, ltb}
 use lib.ListN.{length, getD, set}
 use Rattle.value.specs.declared.Words.{Words}
+use Rattle.value.specs.Encoding.{decodes}
 use Rattle.value.specs.Same.{nil, isNil}
-use Rattle.key.specs.Refusals.{noRoom}
+use Rattle.key.specs.Refusals.{noRoom, noValue}
 use Rattle.key.specs.Canonical.{canonicalKey, onKey}
 use Rattle.model.specs.Entries.{entry, has, find, put, keep, live}
 use Rattle.model.specs.Table.{Room, Table, within, placeOf}
@@ -57,8 +58,15 @@ setKey room t k v =
     (done nil (append t k v (t .allowance)))
     (grow room t k v))))
 
+-- words that are no value's are refused before all else
+abbrev pub areValues : Words → Words → Bool
+areValues key v = decodes key && decodes v
+
 unfoldable pub setOf : Room → Table → Words → Words → Outcome
-setOf room t key v = onKey (canonicalKey key) (λ n. refuse n t) (λ k. setKey room t k v)
+setOf room t key v =
+    cond (areValues key v)
+    (onKey (canonicalKey key) (λ n. refuse n t) (λ k. setKey room t k v))
+    (refuse noValue t)
 
 -- the entries that stay are L here too: cleared ones are dropped, none moves
 unfoldable pub reserveOf : Room → Table → ℕ → Outcome

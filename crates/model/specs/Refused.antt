@@ -7,11 +7,12 @@ use lib.ListN.{length}
 use Rattle.value.specs.declared.Words.{Words}
 use Rattle.value.specs.Same.{isNil}
 use Rattle.key.specs.declared.CanonicalKey.the-variants.{Key}
-use Rattle.key.specs.Refusals.{keyIsNil, keyIsNaN, noRoom}
+use Rattle.key.specs.Refusals.{keyIsNil, keyIsNaN, noRoom, noValue}
 use Rattle.key.specs.Canonical.{canonicalKey}
 use Rattle.model.specs.Entries.{has, keep, live}
 use Rattle.model.specs.Table.{Room, Table, within}
 use Rattle.model.specs.Growth.{optimalSize, rehashed}
+use Rattle.model.specs.Calls.{areValues}
 
 -- step 5, with what leads to growth
 pub record Full (room : Room) (t : Table) (k v : Words) : Type 0 where
@@ -24,9 +25,10 @@ pub record Full (room : Room) (t : Table) (k v : Words) : Type 0 where
 
 -- why a set is refused, and with what number
 pub data Refused (room : Room) (t : Table) (key v : Words) : ℕ → Type 0 where
-  nilKey : key .kind ≡ 0 → Refused room t key v keyIsNil
-  nanKey : key .kind ≡ 3 → nanBits binary64 (key .payload) ≡ true → Refused room t key v keyIsNaN
-  full : (k : Words) → canonicalKey key ≡ Key k → Full room t k v → Refused room t key v noRoom
+  notValues : areValues key v ≡ false → Refused room t key v noValue
+  nilKey : areValues key v ≡ true → key .kind ≡ 0 → Refused room t key v keyIsNil
+  nanKey : areValues key v ≡ true → key .kind ≡ 3 → nanBits binary64 (key .payload) ≡ true → Refused room t key v keyIsNaN
+  full : areValues key v ≡ true → (k : Words) → canonicalKey key ≡ Key k → Full room t k v → Refused room t key v noRoom
 
 -- why a reserve of n entries is refused
 pub record NoSpace (room : Room) (t : Table) (n : ℕ) : Type 0 where
