@@ -1,8 +1,11 @@
--- Each call that reads has one answer: on a sound store the table's, and where the shape is wrong refusal 4. Assumes nothing.
+-- Each call that reads has one answer: on a sound store the table's, or refusal 15 where the words of its key are no value's; and where the
+-- shape is wrong refusal 4. Assumes nothing.
 use mathlib.Core.Path.{_≡_, sym, ap, _∙_}
+use mathlib.Core.Bool.{cond}
 use mathlib.Core.Logic.{_⊎_, inl, inr}
 use Rattle.value.specs.declared.Words.{Words}
-use Rattle.key.specs.Refusals.{wrongShape}
+use Rattle.value.specs.Encoding.{decodes, Decodes}
+use Rattle.key.specs.Refusals.{wrongShape, noValue}
 use Rattle.model.specs.Table.{getOf, nextOf}
 use Rattle.model.specs.Length.{lengthOf}
 use Rattle.store.specs.Store.{Store}
@@ -28,32 +31,42 @@ module _ (s : Store) where
   shaped S = sound-shaped s S
 
   -- ---- get
-  pub get-done : (key : Words) (r : GotWords) → GetAnswers s key r → Sound s → r ≡ Value (getOf (tableOf s) key)
-  get-done key (Value v) a S = ap Value (a .1 S)
-  get-done key (GetNo n) a S = absurd (a .0 (shaped S))
+  get-answered : (key : Words) (r : GotWords) → GetAnswers s key r → Sound s → r ≡ cond (decodes key) (Value (getOf (tableOf s) key)) (GetNo noValue)
+  get-answered key (Value v) a S = rw (a .1) (ap Value (a .2 S))
+  get-answered key (GetNo n) (inl a) S = absurd (a .0 (shaped S))
+  get-answered key (GetNo n) (inr a) S = rw (a .1) (ap GetNo (a .2))
+
+  pub get-done : (key : Words) (r : GotWords) → GetAnswers s key r → Sound s → Decodes key → r ≡ Value (getOf (tableOf s) key)
+  get-done key r a S d = rw d at (get-answered key r a S)
 
   pub get-refused : (key : Words) (r : GotWords) → GetAnswers s key r → (Shaped s → ⊥) → r ≡ GetNo wrongShape
   get-refused key (Value v) a h = absurd (h (a .0))
-  get-refused key (GetNo n) a h = ap GetNo (a .1)
+  get-refused key (GetNo n) (inl a) h = ap GetNo (a .1)
+  get-refused key (GetNo n) (inr a) h = absurd (h (a .0))
 
   pub get-unique : (key : Words) (r r′ : GotWords) → Sound s ⊎ (Shaped s → ⊥) → GetAnswers s key r → GetAnswers s key r′ → r ≡ r′
-  get-unique key = one s (GetAnswers s key) (Value (getOf (tableOf s) key)) (GetNo wrongShape) (get-done key) (get-refused key)
+  get-unique key = one s (GetAnswers s key) _ (GetNo wrongShape) (get-answered key) (get-refused key)
 
   -- ---- next
-  pub next-done : (key : Words) (r : NextWords) → NextAnswers s key r → Sound s → r ≡ inWords (nextOf (tableOf s) key)
-  next-done key (Found k v) a S = ap inWords (sym (a .1 S))
-  next-done key Last a S = ap inWords (sym (a .1 S))
-  next-done key NotFound a S = ap inWords (sym (a .1 S))
-  next-done key (NextNo n) a S = absurd (a .0 (shaped S))
+  next-answered : (key : Words) (r : NextWords) → NextAnswers s key r → Sound s → r ≡ cond (decodes key) (inWords (nextOf (tableOf s) key)) (NextNo noValue)
+  next-answered key (Found k v) a S = rw (a .1) (ap inWords (sym (a .2 S)))
+  next-answered key Last a S = rw (a .1) (ap inWords (sym (a .2 S)))
+  next-answered key NotFound a S = rw (a .1) (ap inWords (sym (a .2 S)))
+  next-answered key (NextNo n) (inl a) S = absurd (a .0 (shaped S))
+  next-answered key (NextNo n) (inr a) S = rw (a .1) (ap NextNo (a .2))
+
+  pub next-done : (key : Words) (r : NextWords) → NextAnswers s key r → Sound s → Decodes key → r ≡ inWords (nextOf (tableOf s) key)
+  next-done key r a S d = rw d at (next-answered key r a S)
 
   pub next-refused : (key : Words) (r : NextWords) → NextAnswers s key r → (Shaped s → ⊥) → r ≡ NextNo wrongShape
   next-refused key (Found k v) a h = absurd (h (a .0))
   next-refused key Last a h = absurd (h (a .0))
   next-refused key NotFound a h = absurd (h (a .0))
-  next-refused key (NextNo n) a h = ap NextNo (a .1)
+  next-refused key (NextNo n) (inl a) h = ap NextNo (a .1)
+  next-refused key (NextNo n) (inr a) h = absurd (h (a .0))
 
   pub next-unique : (key : Words) (r r′ : NextWords) → Sound s ⊎ (Shaped s → ⊥) → NextAnswers s key r → NextAnswers s key r′ → r ≡ r′
-  next-unique key = one s (NextAnswers s key) (inWords (nextOf (tableOf s) key)) (NextNo wrongShape) (next-done key) (next-refused key)
+  next-unique key = one s (NextAnswers s key) _ (NextNo wrongShape) (next-answered key) (next-refused key)
 
   -- ---- length
   pub length-done : (r : Measured) → LengthAnswers s r → Sound s → r ≡ Length (lengthOf (tableOf s))

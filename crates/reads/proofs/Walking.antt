@@ -6,6 +6,7 @@ use Prim.Native.Nat.{ℕ, suc, _+_, _-_, _≤_, _<_}
 use native.Mathlib.Omega.{arith}
 use borrow.Author.Tests.{eq-eqb, ne-eqb}
 use Rattle.value.specs.declared.Words.{Words}
+use Rattle.value.specs.Encoding.{Decodes}
 use Rattle.value.specs.Same.{isNil}
 use Rattle.key.specs.declared.CanonicalKey.the-variants.{Key, No}
 use Rattle.key.specs.Refusals.{keyIsNil}
@@ -61,11 +62,11 @@ unfolding nextOf
 next-nan-key t key n e q = rw (e, ne-eqb n keyIsNil q)
 
 -- ---- a step n in words is no refusal: where n is the table's, it is what a store of right shape answers
-module _ (s : Store) (key : Words) (h : Shaped s) where
+module _ (s : Store) (key : Words) (h : Shaped s) (d : Decodes key) where
   step-answers : (n : NextValue) → (Sound s → nextOf (tableOf s) key ≡ n) → NextAnswers s key (inWords n)
-  step-answers (found k v) q = (h, q)
-  step-answers last q = (h, q)
-  step-answers notFound q = (h, q)
+  step-answers (found k v) q = (h, d, q)
+  step-answers last q = (h, d, q)
+  step-answers notFound q = (h, d, q)
 
   pub next-answers : (n : NextValue) (r : NextWords) → r ≡ inWords n → (Sound s → nextOf (tableOf s) key ≡ n) → NextAnswers s key r
   next-answers n r e q = subst (NextAnswers s key) (sym e) (step-answers n q)

@@ -67,6 +67,9 @@ pub fn get_words(
     if !store::right_shape(array.len(), entries.len(), index.len(), sizes) {
         return GotWords::No(key::WRONG_SHAPE);
     }
+    if !lent::decodable(key) {
+        return GotWords::No(key::NO_VALUE);
+    }
     let CanonicalKey::Key(k) = key::canonical_key(key) else {
         return GotWords::Value(value::nil());
     };
@@ -138,6 +141,9 @@ pub fn next_words(
 {
     if !store::right_shape(array.len(), entries.len(), index.len(), sizes) {
         return NextWords::No(key::WRONG_SHAPE);
+    }
+    if !lent::decodable(key) {
+        return NextWords::No(key::NO_VALUE);
     }
     match key::canonical_key(key) {
         CanonicalKey::Key(k) => next_key(array, entries, index, sizes, k),

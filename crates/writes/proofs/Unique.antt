@@ -24,7 +24,7 @@ record Alike (x y : Left) : Type 0 where
   -- only a call that was done answers more than its number
   more : x .refusal ≡ 0 → x ≡ y
 
-alike : {s : Store} {o : Outcome} {Numbers : ℕ → Type 0} {Given : Type 0} {x y : Left} → Sound s ⊎ (Shaped s → ⊥) → Promised s o Numbers Given x → Promised s o Numbers Given y → Alike x y
+alike : {s : Store} {o : Outcome} {Numbers : ℕ → Type 0} {x y : Left} → Sound s ⊎ (Shaped s → ⊥) → Promised s o Numbers x → Promised s o Numbers y → Alike x y
 alike (inl S) p q =
     let e = p .does .sound S ∙ sym (q .does .sound S) in
     record { refusal = ap (λ (z : Left). z .refusal) e; slices = ap (λ (z : Left). z .store .slices) e; more = λ r. e }

@@ -1,14 +1,14 @@
 -- What a call that writes promises (01, 'Calls', 'Growth' and 'Refusal numbers'), in three clauses: the shape; any refusal on any words; and
 -- on a sound store the table's outcome, written out. Assumes nothing.
 use mathlib.Core.Path.{_≡_}
+use mathlib.Core.Bool.{cond}
 use mathlib.Core.Logic.{_⊎_}
 use Prim.Native.Nat.{ℕ, _<_}
 use Rattle.value.specs.declared.Words.{Words}
-use Rattle.value.specs.Encoding.{Decodes}
 use Rattle.value.specs.Same.{nil}
-use Rattle.key.specs.Refusals.{noRoom, wrongShape}
+use Rattle.key.specs.Refusals.{noRoom, wrongShape, noValue}
 use Rattle.key.specs.Canonical.{canonicalKey, onKey}
-use Rattle.model.specs.Calls.{Outcome, setOf, reserveOf}
+use Rattle.model.specs.Calls.{Outcome, areValues, setOf, reserveOf}
 use Rattle.store.specs.declared.Record.{Record}
 use Rattle.store.specs.Store.{Slices, Store, store, Lengths, lengthsOf, roomFor}
 use Rattle.store.specs.Shape.{Shaped}
@@ -54,19 +54,18 @@ pub record Does (before : Store) (o : Outcome) (l : Left) : Type 0 where
   pub refused : (l .refusal ≡ 0 → ⊥) → l .store ≡ before
   pub sound : Sound before → l ≡ writtenOut (lengthsOf (before .slices)) o
 
--- what is refused on any words of right shape: want of room only, or, of a set, what its key is refused for
+-- what is refused on any words of right shape: want of room only, or, of a set, words that are no value's, and then what its key is refused for
 abbrev pub RoomOnly : ℕ → Type 0
 RoomOnly n = (n ≡ 0) ⊎ (n ≡ noRoom)
 
-abbrev pub SetNumbers : Words → ℕ → Type 0
-SetNumbers key n = onKey (canonicalKey key) (λ m. n ≡ m) (λ k. RoomOnly n)
+abbrev pub SetNumbers : Words → Words → ℕ → Type 0
+SetNumbers key v n = cond (areValues key v) (onKey (canonicalKey key) (λ m. n ≡ m) (λ k. RoomOnly n)) (n ≡ noValue)
 
--- `Given` is what a host owes for the store to stay sound: that the words it passes are values'
-pub record Promised (before : Store) (o : Outcome) (Numbers : ℕ → Type 0) (Given : Type 0) (l : Left) : Type 0 where
+pub record Promised (before : Store) (o : Outcome) (Numbers : ℕ → Type 0) (l : Left) : Type 0 where
   pub wrong : (Shaped before → ⊥) → l .refusal ≡ wrongShape
   pub right : Shaped before → Numbers (l .refusal)
   pub does : Does before o l
-  pub kept : Sound before → Given → Sound (l .store)
+  pub kept : Sound before → Sound (l .store)
 
 abbrev pub setOutcome : Store → Words → Words → Outcome
 setOutcome s key v = setOf (roomFor s) (tableOf s) key v
@@ -75,7 +74,7 @@ abbrev pub reserveOutcome : Store → ℕ → Outcome
 reserveOutcome s n = reserveOf (roomFor s) (tableOf s) n
 
 abbrev pub SetDone : Store → Words → Words → Slices → SetWords → Type 0
-SetDone before key v after r = SetNumbered r × Promised before (setOutcome before key v) (SetNumbers key) (Decodes key × Decodes v) (setLeft (before .sizes) after r)
+SetDone before key v after r = SetNumbered r × Promised before (setOutcome before key v) (SetNumbers key v) (setLeft (before .sizes) after r)
 
 abbrev pub ReserveDone : Store → ℕ → Slices → Reserved → Type 0
-ReserveDone before n after r = ReserveNumbered r × Promised before (reserveOutcome before n) RoomOnly (Unit {0}) (reserveLeft (before .sizes) after r)
+ReserveDone before n after r = ReserveNumbered r × Promised before (reserveOutcome before n) RoomOnly (reserveLeft (before .sizes) after r)

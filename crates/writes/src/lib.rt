@@ -13,6 +13,7 @@ ghost use lib.ListN.{length, set};
 ghost use Rattle.lent.specs.Lent.{putEntry};
 ghost use Rattle.index.specs.Index.{wordBits};
 ghost use Rattle.model.specs.Table.{within};
+ghost use Rattle.model.specs.Calls.{areValues};
 ghost use Rattle.rehash.specs.Rehash.{StaysTo, stayingIn};
 ghost use Rattle.store.specs.Store.{slices, storeOf};
 ghost use Rattle.store.specs.Shape.{Shaped};
@@ -171,6 +172,13 @@ fn set_key(
     }
 }
 
+// Whether the words of a key and of a value are values'.
+fn are_values(key: Words, v: Words) -> bool
+    ensures { λ r. ⌜ r ≡ areValues key v ⌝ }
+{
+    if lent::decodable(key) { lent::decodable(v) } else { false }
+}
+
 pub fn set_words(
     array: &mut [u64],
     entries: &mut [u64],
@@ -183,6 +191,9 @@ pub fn set_words(
 {
     if !store::right_shape(array.len(), entries.len(), index.len(), sizes) {
         return SetWords::No(key::WRONG_SHAPE);
+    }
+    if !are_values(key, v) {
+        return SetWords::No(key::NO_VALUE);
     }
     let canonical = key::canonical_key(key);
     let CanonicalKey::Key(k) = canonical else {

@@ -99,7 +99,7 @@ returns-4 c =
     let h : Shaped s = said-yes (tested .before .right-shape .ensures) (tested .if1 .left) in
     let more = surveyed .before .before .if2 .left in (
       tt,
-      changed s _ RoomOnly _ h (inl refl) (λ S g. reserve-kept _ _ (a .n) (sound-formed s S))
+      changed s _ RoomOnly _ h (inl refl) (λ S. reserve-kept _ _ (a .n) (sound-formed s S))
           (record { refused = λ r. absurd (r refl); sound = λ S. dropped s S (a .n) more (omega (arith, room .if3 .left, surveyed .survey .ensures .number)) _ (call .rehash .result) (call .rehash .ensures .sound S) _ (c .larger .ensures) })
           (λ i. omega (arith, array .slice-known4 .given i))
           (λ i. omega (arith, entries .slice-known5 .given i)),
