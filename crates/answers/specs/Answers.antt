@@ -36,8 +36,8 @@ tableAfter room t Length = t
 tableAfter room t (Next k) = t
 tableAfter room t (Reserve n) = reserveOf room t n .table
 
--- a request that is answered
+-- a request that is answered: what is read off bytes passes values, and of others the reply is not said
 pub record Answers (before : Store) (q : Request) (after : Store) (r : Reply) : Type 0 where
-  pub reply : Sound before → r ≡ replyOf (roomFor before) (tableOf before) q
+  pub reply : Sound before → ValuesPassed q → r ≡ replyOf (roomFor before) (tableOf before) q
   pub table : Sound before → tableOf after ≡ tableAfter (roomFor before) (tableOf before) q
-  pub kept : Sound before → ValuesPassed q → Stays before after
+  pub kept : Sound before → Stays before after

@@ -1,19 +1,21 @@
 -- Demand 1 on stores: a set or a reserve is refused for the reasons of 01 and for no other, and changes no word then; and a set that is done
 -- shows in the gets after it. Assumes nothing.
 use mathlib.Core.Path.{_≡_, sym, ap, subst, _∙_}
-use mathlib.Core.Bool.{false}
+use mathlib.Core.Bool.{true, false}
 use mathlib.Core.Logic.{inl, inr}
 use Prim.Native.Nat.{ℕ}
 use native.Mathlib.Omega.{arith}
 use Rattle.value.specs.declared.Words.{Words}
-use Rattle.value.specs.Encoding.{Decodes}
+use Rattle.value.specs.Encoding.{decodes, Decodes}
 use Rattle.value.specs.Same.{same}
+use Rattle.value.proofs.Cases.{caseb, and-left}
 use Rattle.key.specs.declared.CanonicalKey.the-variants.{Key}
-use Rattle.key.specs.Refusals.{noRoom}
+use Rattle.key.specs.Refusals.{noRoom, noValue}
 use Rattle.key.specs.Canonical.{canonicalKey}
-use Rattle.model.specs.Calls.{Outcome}
+use Rattle.model.specs.Calls.{Outcome, areValues}
 use Rattle.model.specs.Refused.{Refused}
 use Rattle.model.specs.Means.{Means}
+use Rattle.model.proofs.Map.{set-no-value}
 use Rattle.model.proofs.Refusals.{set-refused, refused-set, reserve-refused, refused-reserve}
 use Rattle.model.proofs.Meaning.{set-means, reserve-means}
 use Rattle.store.specs.Store.{Slices, Store, roomFor}
@@ -22,7 +24,7 @@ use Rattle.store.proofs.Sound.{sound-formed}
 use Rattle.reads.specs.declared.GotWords.{GotWords}
 use Rattle.reads.specs.declared.GotWords.the-variants.{Value}
 use Rattle.reads.specs.Reads.{GetAnswers}
-use Rattle.reads.proofs.Unique.{get-done}
+use Rattle.reads.proofs.Unique.{gotWords, get-done, get-answered}
 use Rattle.writes.specs.declared.SetWords.{SetWords}
 use Rattle.writes.specs.declared.Reserved.{Reserved}
 use Rattle.writes.specs.Writes.{setLeft, reserveLeft, setOutcome, SetDone, ReserveDone}
@@ -40,27 +42,35 @@ module _ (s : Store) (key v : Words) (after : Slices) (r : SetWords) (S : Sound 
     unchanged = p .1 .does .refused;
   }
 
-  -- done, with a key and a value that are values'
-  module _ (k : Words) (dk : Decodes key) (dv : Decodes v) (c : canonicalKey key ≡ Key k) (z : setLeft (s .sizes) after r .refusal ≡ 0) where
+  -- done: then the words that were passed are values'
+  module _ (k : Words) (c : canonicalKey key ≡ Key k) (z : setLeft (s .sizes) after r .refusal ≡ 0) where
+    done : setOutcome s key v .refusal ≡ 0
+    done = sym (refusal-is S (p .1)) ∙ z
+
+    values : areValues key v ≡ true
+    values =
+        caseb (areValues key v) (λ d. d)
+        (λ d. let x : _≡_ {A = ℕ} noValue 0 = sym (ap (λ (o : Outcome). o .refusal) (set-no-value (roomFor s) (tableOf s) key v d)) ∙ done in absurd (omega arith))
+
     means : Means (tableOf s) key k v (setOutcome s key v)
-    means = elim (set-means (roomFor s) (tableOf s) key k v (sound-formed s S) c) [
+    means = elim (set-means (roomFor s) (tableOf s) key k v (sound-formed s S) values c) [
       | inl m ↦ m .1
-      | inr e ↦ let x : _≡_ {A = ℕ} 0 noRoom = sym z ∙ refusal-is S (p .1) ∙ ap (λ (o : Outcome). o .refusal) e in absurd (omega arith)
+      | inr e ↦ let x : _≡_ {A = ℕ} noRoom 0 = sym (ap (λ (o : Outcome). o .refusal) e) ∙ done in absurd (omega arith)
     ]
 
     left : Sound (setLeft (s .sizes) after r .store)
-    left = set-stays key v S dk dv (p .1) .sound
+    left = set-stays key v S (p .1) .sound
 
-    -- at every key that is this one, a get shows the value
-    pub last-shown : (j : Words) → canonicalKey j ≡ Key k → (a : GotWords) → GetAnswers (setLeft (s .sizes) after r .store) j a → a ≡ Value v
-    last-shown j e a q = get-left S (p .1) left j a q ∙ ap Value (means .here j e)
+    -- at every value that is this key, a get shows the value
+    pub last-shown : (j : Words) → Decodes j → canonicalKey j ≡ Key k → (a : GotWords) → GetAnswers (setLeft (s .sizes) after r .store) j a → a ≡ Value v
+    last-shown j d e a q = get-left S (p .1) left j a q ∙ rw d (ap Value (means .here j e))
 
     pub previous-shown : (a : GotWords) → GetAnswers s key a → a ≡ Value (setLeft (s .sizes) after r .previous)
-    previous-shown a q = get-done _ key a q S ∙ ap Value (sym (previous-is S (p .1) ∙ means .previously))
+    previous-shown a q = get-done _ key a q S (and-left (decodes key) (decodes v) values) ∙ ap Value (sym (previous-is S (p .1) ∙ means .previously))
 
     pub others-shown : (j i : Words) → canonicalKey j ≡ Key i → same k i ≡ false → (a b : GotWords)
         → GetAnswers (setLeft (s .sizes) after r .store) j a → GetAnswers s j b → a ≡ b
-    others-shown j i e n a b q o = get-left S (p .1) left j a q ∙ ap Value (means .elsewhere j i e n) ∙ sym (get-done _ j b o S)
+    others-shown j i e n a b q o = get-left S (p .1) left j a q ∙ ap (gotWords j) (means .elsewhere j i e n) ∙ sym (get-answered _ j b o S)
 
 -- ---- reserve
 module _ (s : Store) (n : ℕ) (after : Slices) (r : Reserved) (S : Sound s) (p : ReserveDone s n after r) where
@@ -77,4 +87,4 @@ module _ (s : Store) (n : ℕ) (after : Slices) (r : Reserved) (S : Sound s) (p 
   -- done or refused, it changes no get
   pub all-shown : (j : Words) (a b : GotWords) → GetAnswers (reserveLeft (s .sizes) after r .store) j a → GetAnswers s j b → a ≡ b
   all-shown j a b q o =
-      get-left S (p .1) (reserve-stays n S (p .1) .sound) j a q ∙ ap Value (reserve-means (roomFor s) (tableOf s) n j (sound-formed s S)) ∙ sym (get-done _ j b o S)
+      get-left S (p .1) (reserve-stays n S (p .1) .sound) j a q ∙ ap (gotWords j) (reserve-means (roomFor s) (tableOf s) n j (sound-formed s S)) ∙ sym (get-answered _ j b o S)

@@ -27,12 +27,12 @@ use Rattle.demands.proofs.Demand1.{last-shown}
 use Rattle.demands.proofs.Demand3.{demand3}
 
 -- at every key that is the one set, such as 1 and 1.0
-pub value-shown : (s : Store) (key v p : Value) (after : Slices) (x : Record) (k : Words) → Sound s → Typed key → Typed v → canonicalKey (encoded key) ≡ Key k
-    → SetValue s key v after (Done p x) → (j : Value) → canonicalKey (encoded j) ≡ Key k → (r : Got) → GetValue (store after x) j r → r ≡ Is (settled v)
-value-shown s key v p after x k S tk tv c d j e r g =
+pub value-shown : (s : Store) (key v p : Value) (after : Slices) (x : Record) (k : Words) → Sound s → Typed v → canonicalKey (encoded key) ≡ Key k
+    → SetValue s key v after (Done p x) → (j : Value) → Typed j → canonicalKey (encoded j) ≡ Key k → (r : Got) → GetValue (store after x) j r → r ≡ Is (settled v)
+value-shown s key v p after x k S tv c d j tj e r g =
     let w = set-words s key v p after x d in
     g .2
-    ∙ ap gotOf (last-shown s (encoded key) (encoded v) after (SetDoes (w .0) x) S (w .1) k (encoded-decodes key tk) (encoded-decodes v tv) c refl (encoded j) e (g .0) (g .1))
+    ∙ ap gotOf (last-shown s (encoded key) (encoded v) after (SetDoes (w .0) x) S (w .1) k c refl (encoded j) (encoded-decodes j tj) e (g .0) (g .1))
     ∙ ap (λ (b : Decoded). Is (orNil b)) (stored-read v tv)
 
 -- from the Value that was handed out last, Nil before the first

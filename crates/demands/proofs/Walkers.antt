@@ -13,7 +13,6 @@ use Rattle.value.proofs.Same.{same-refl}
 use Rattle.model.specs.Entries.{Entry}
 use Rattle.store.specs.Store.{Store}
 use Rattle.store.specs.Written.{Sound}
-use Rattle.store.proofs.Sound.{sound-shaped}
 use Rattle.reads.specs.declared.NextWords.{NextWords}
 use Rattle.reads.specs.declared.NextWords.the-variants.{Found as FoundWords, Last as LastWords, NotFound as NotFoundWords, No as NoWords}
 use Rattle.reads.specs.Reads.{NextAnswers}
@@ -73,7 +72,7 @@ module _ {s₀ s : Store} {allowed : List Words} {key : Words} {handed : List En
   no-refusal i (FoundWords a b) p x = never (cc)
   no-refusal i LastWords p x = never (cc)
   no-refusal i NotFoundWords p x = never (cc)
-  no-refusal i (NoWords n) p x = p .0 (sound-shaped s (m .sound))
+  no-refusal i (NoWords n) p x = m .answered n p
 
   pub walker-demand3 : WalkerWalked s₀ s key handed (Throughout h) w
   walker-demand3 =

@@ -6,6 +6,7 @@ pub mod Size
 pub mod Map
 pub mod Kept
 pub mod Refusals
+pub mod Settles
 pub mod Next
 pub mod Meaning
 pub mod Border

@@ -24,7 +24,7 @@ use Rattle.model.specs.WellFormed.{WellFormed}
 use Rattle.model.specs.Refused.{Full, Refused, notValues, nilKey, nanKey, full, NoSpace}
 use Rattle.model.proofs.Map.{set-no-value, set-key, set-no-key, by-set, Sets, set-sets}
 
-zero-three : {X : Type 0} → _≡_ {A = ℕ} 0 3 → X
+pub zero-three : {X : Type 0} → _≡_ {A = ℕ} 0 3 → X
 zero-three p = absurd (differ p)
   where
     differ : _≡_ {A = ℕ} 0 3 → ⊥
@@ -45,13 +45,18 @@ refused-full room t k v h =
     (λ f. caseb (within (length (r .array)) k)
     (λ g. zero-three (rw (b, c, d, f, g) at h))
     (λ g. caseb (leb (room .entryRoom) (length (r .entries)))
-    (λ l. record { notArray = b; absent = c; value = d; spent = ltb-false (length (t .entries)) (t .allowance) f; beyond = g; noPlace = leb-true (room .entryRoom) (length (r .entries)) l })
+    (λ l. record {
+      grows = record { notArray = b; absent = c; value = d; spent = ltb-false (length (t .entries)) (t .allowance) f };
+      beyond = g;
+      noPlace = leb-true (room .entryRoom) (length (r .entries)) l;
+    })
     (λ l. zero-three (rw (b, c, d, f, g, l) at h)))))))
 
 pub full-refused : (room : Room) (t : Table) (k v : Words) → Full room t k v → (setKey room t k v) .refusal ≡ noRoom
 unfolding setKey grow placeIn
 full-refused room t k v x =
-    rw (x .notArray, x .absent, x .value, le-ltb (length (t .entries)) (t .allowance) (x .spent), x .beyond, le-leb (room .entryRoom) (length ((rehashed t (optimalSize room t k)) .entries)) (x .noPlace))
+    let n = x .grows in
+    rw (n .notArray, n .absent, n .value, le-ltb (length (t .entries)) (t .allowance) (n .spent), x .beyond, le-leb (room .entryRoom) (length ((rehashed t (optimalSize room t k)) .entries)) (x .noPlace))
 
 -- ---- for these reasons, and for no other
 pub set-refused : (room : Room) (t : Table) (key v : Words) → WellFormed room t → ((setOf room t key v) .refusal ≡ 0 → ⊥) → Refused room t key v ((setOf room t key v) .refusal)

@@ -4,6 +4,7 @@ pub mod Growth
 pub mod Calls
 pub mod Length
 pub mod WellFormed
+pub mod Settles
 pub mod Refused
 pub mod Means
 pub mod Manual

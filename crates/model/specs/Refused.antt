@@ -5,21 +5,18 @@ use Prim.Native.Nat.{ℕ, _+_, _-_, _≤_, _<_}
 use lib.Ieee.{binary64, nanBits}
 use lib.ListN.{length}
 use Rattle.value.specs.declared.Words.{Words}
-use Rattle.value.specs.Same.{isNil}
 use Rattle.key.specs.declared.CanonicalKey.the-variants.{Key}
 use Rattle.key.specs.Refusals.{keyIsNil, keyIsNaN, noRoom, noValue}
 use Rattle.key.specs.Canonical.{canonicalKey}
-use Rattle.model.specs.Entries.{has, keep, live}
+use Rattle.model.specs.Entries.{keep, live}
 use Rattle.model.specs.Table.{Room, Table, within}
 use Rattle.model.specs.Growth.{optimalSize, rehashed}
 use Rattle.model.specs.Calls.{areValues}
+use Rattle.model.specs.Settles.{FindsNoPlace}
 
 -- step 5, with what leads to growth
 pub record Full (room : Room) (t : Table) (k v : Words) : Type 0 where
-  pub notArray : within (length (t .array)) k ≡ false
-  pub absent : has (t .entries) k ≡ false
-  pub value : isNil v ≡ false
-  pub spent : t .allowance ≤ length (t .entries)
+  pub grows : FindsNoPlace t k v
   pub beyond : within (length ((rehashed t (optimalSize room t k)) .array)) k ≡ false
   pub noPlace : room .entryRoom ≤ length ((rehashed t (optimalSize room t k)) .entries)
 

@@ -26,12 +26,16 @@ one : {R : Type 0} (s : Store) (P : R → Type 0) (x y : R) → ((r : R) → P r
 one s P x y done refused r r′ (inl S) a b = done r a S ∙ sym (done r′ b S)
 one s P x y done refused r r′ (inr h) a b = refused r a h ∙ sym (refused r′ b h)
 
+-- what a sound store answers to a get, where its table has this value
+abbrev pub gotWords : Words → Words → GotWords
+gotWords key v = cond (decodes key) (Value v) (GetNo noValue)
+
 module _ (s : Store) where
   shaped : Sound s → Shaped s
   shaped S = sound-shaped s S
 
   -- ---- get
-  get-answered : (key : Words) (r : GotWords) → GetAnswers s key r → Sound s → r ≡ cond (decodes key) (Value (getOf (tableOf s) key)) (GetNo noValue)
+  pub get-answered : (key : Words) (r : GotWords) → GetAnswers s key r → Sound s → r ≡ gotWords key (getOf (tableOf s) key)
   get-answered key (Value v) a S = rw (a .1) (ap Value (a .2 S))
   get-answered key (GetNo n) (inl a) S = absurd (a .0 (shaped S))
   get-answered key (GetNo n) (inr a) S = rw (a .1) (ap GetNo (a .2))

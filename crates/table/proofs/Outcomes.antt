@@ -15,15 +15,15 @@ use Rattle.store.proofs.Sound.{lengths-written, sound-formed, sound-shaped}
 use Rattle.reads.specs.declared.GotWords.{GotWords}
 use Rattle.reads.specs.declared.GotWords.the-variants.{Value}
 use Rattle.reads.specs.Reads.{GetAnswers}
-use Rattle.reads.proofs.Unique.{get-done}
+use Rattle.reads.proofs.Unique.{gotWords, get-answered}
 use Rattle.table.specs.Stays.{Stays}
 use Rattle.writes.specs.Writes.{Left, RoomOnly, SetNumbers, Promised, setOutcome, reserveOutcome}
 
-pub is-get : {s : Store} → Sound s → (key : Words) → GetAnswers s key (Value (getOf (tableOf s) key))
-is-get {s = s} S key = (sound-shaped s S, λ S. refl)
+pub is-get : {s : Store} → Sound s → (key : Words) → Decodes key → GetAnswers s key (Value (getOf (tableOf s) key))
+is-get {s = s} S key d = (sound-shaped s S, d, λ S. refl)
 
 -- ---- the calls that write
-module _ {s : Store} {o : Outcome} {Numbers : ℕ → Type 0} {Given : Type 0} {l : Left} (S : Sound s) (p : Promised s o Numbers Given l) where
+module _ {s : Store} {o : Outcome} {Numbers : ℕ → Type 0} {l : Left} (S : Sound s) (p : Promised s o Numbers l) where
   pub refusal-is : l .refusal ≡ o .refusal
   refusal-is = ap (λ (x : Left). x .refusal) (p .does .sound S)
 
@@ -33,25 +33,24 @@ module _ {s : Store} {o : Outcome} {Numbers : ℕ → Type 0} {Given : Type 0} {
   pub table-is : tableOf (l .store) ≡ o .table
   table-is = ap (λ (x : Left). tableOf (x .store)) (p .does .sound S) ∙ table-written (lengthsOf (s .slices)) (o .table)
 
-  pub get-left : Sound (l .store) → (key : Words) (a : GotWords) → GetAnswers (l .store) key a → a ≡ Value (getOf (o .table) key)
-  get-left L key a q = get-done _ key a q L ∙ ap (λ (t : Table). Value (getOf t key)) table-is
+  pub get-left : Sound (l .store) → (key : Words) (a : GotWords) → GetAnswers (l .store) key a → a ≡ gotWords key (getOf (o .table) key)
+  get-left L key a q = get-answered _ key a q L ∙ ap (λ (t : Table). gotWords key (getOf t key)) table-is
 
   -- after any refusal, whatever words were passed
   pub refused-stays : (l .refusal ≡ 0 → ⊥) → Stays s (l .store)
   refused-stays r =
       let e = p .does .refused r in record { sound = subst Sound (sym e) S; lengths = ap (λ (x : Store). lengthsOf (x .slices)) e }
 
-  given-stays : Given → WellFormed (roomFor s) (o .table) → Stays s (l .store)
-  given-stays g w =
+  formed-stays : WellFormed (roomFor s) (o .table) → Stays s (l .store)
+  formed-stays w =
       record {
-        sound = p .kept S g;
+        sound = p .kept S;
         lengths = ap (λ (x : Left). lengthsOf (x .store .slices)) (p .does .sound S) ∙ lengths-written (lengthsOf (s .slices)) (o .table) (S .lengths) w;
       }
 
--- the words that are passed to a set are values'
-pub set-stays : {s : Store} (key v : Words) {l : Left} → Sound s → Decodes key → Decodes v → Promised s (setOutcome s key v) (SetNumbers key) (Decodes key × Decodes v) l
-    → Stays s (l .store)
-set-stays {s = s} key v S dk dv p = given-stays S p (dk, dv) (setOf-kept (roomFor s) (tableOf s) key v (sound-formed s S) dk dv)
+-- whatever words are passed
+pub set-stays : {s : Store} (key v : Words) {l : Left} → Sound s → Promised s (setOutcome s key v) (SetNumbers key v) l → Stays s (l .store)
+set-stays {s = s} key v S p = formed-stays S p (setOf-kept (roomFor s) (tableOf s) key v (sound-formed s S))
 
-pub reserve-stays : {s : Store} (n : ℕ) {l : Left} → Sound s → Promised s (reserveOutcome s n) RoomOnly (Unit {0}) l → Stays s (l .store)
-reserve-stays {s = s} n S p = given-stays S p tt (reserve-kept (roomFor s) (tableOf s) n (sound-formed s S))
+pub reserve-stays : {s : Store} (n : ℕ) {l : Left} → Sound s → Promised s (reserveOutcome s n) RoomOnly l → Stays s (l .store)
+reserve-stays {s = s} n S p = formed-stays S p (reserve-kept (roomFor s) (tableOf s) n (sound-formed s S))

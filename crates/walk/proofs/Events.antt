@@ -12,17 +12,17 @@ use Rattle.value.proofs.Cases.{caseb, clash, or-cases, or-right}
 use Rattle.value.proofs.Same.{same-eq, same-refl, eq-same}
 use Rattle.key.specs.declared.CanonicalKey.the-variants.{Key}
 use Rattle.key.specs.Canonical.{canonicalKey}
-use Rattle.key.proofs.Own.{by-key, canonical-own}
+use Rattle.key.proofs.Own.{canonical-own}
 use Rattle.model.specs.Entries.{Entry, entry, keysOf, member, distinct, has, find, put, live, found, last, first}
 use Rattle.model.specs.Table.{Room, Table, within, pairs, lookup, getOf, nextOf}
 use Rattle.model.specs.Calls.{Outcome, setKey, setOf}
 use Rattle.model.specs.WellFormed.{WellFormed}
 use Rattle.model.proofs.Entries.{updated, put-keys, keys-append, has-append, find-append-has, find-append-not, find-absent, find-put, has-snoc, has-keep, each-key}
 use Rattle.model.proofs.Array.{has-pairs, key-of-pairs, find-pairs, pairs-writeArray, pairs-writeEntry}
-use Rattle.model.proofs.Map.{set-key, set-no-key, numbered}
+use Rattle.model.proofs.Map.{by-set, numbered}
 use Rattle.model.proofs.Kept.{setKey-kept}
 use Rattle.model.proofs.Next.{next-nil, next-there, after-key, get-key, pairs-apart, pair-canonical, has-middle, next-lists}
-use Rattle.walk.specs.History.{liveKeys}
+use Rattle.walk.specs.History.{liveKeys, May}
 use Rattle.walk.proofs.Lists.{apart, keys-split, lastKey, last-snoc, last-entry, FirstFound, first-found, first-last}
 
 pub record Inv (room : Room) (t₀ t : Table) (allowed : List Words) (key : Words) (handed : List Entry) (Through : Words → Type 0) : Type 0 where
@@ -104,27 +104,30 @@ module _ {room : Room} {t₀ t : Table} {allowed : List Words} {key : Words} {ha
       r : (a : List Entry) × (b : List Entry) × (pairs u ≡ a ++ b) × (keysOf a ≡ keysOf (i .before)) × (keysOf b ≡ keysOf (i .after))
       r = keys-split (pairs u) (keysOf (i .before)) (keysOf (i .after)) (e ∙ ap keysOf (i .split) ∙ keys-append (i .before) (i .after))
 
-  pub unchanged : {u : Table} → u ≡ t → Inv room t₀ u allowed key handed (λ j. (isNil (getOf u j) ≡ false) × Through j)
+  unchanged : {u : Table} → u ≡ t → Inv room t₀ u allowed key handed (λ j. (isNil (getOf u j) ≡ false) × Through j)
   unchanged p = changed (rw p (i .wellFormed)) (rw p) (rw p (i .settable))
 
   -- a set of Nil, or of a key that may be set
-  pub was-set : (j v : Words) → Decodes v → ((k : Words) → canonicalKey j ≡ Key k → isNil v ≡ false → member allowed k ≡ true)
+  pub was-set : (j v : Words) → May allowed j v
       → Inv room t₀ ((setOf room t j v) .table) allowed key handed (λ x. (isNil (getOf ((setOf room t j v) .table) x) ≡ false) × Through x)
-  was-set j v d may =
-      by-key j
-      (λ k c. rw (set-key room t j v k c)
+  was-set j v m =
+      by-set room t j v
+      (λ k dk d c q. rw q
       (caseb (has (pairs t) k)
-      (λ h. written k c h)
+      (λ h. written d k c h)
       (λ h. caseb (isNil v)
       (λ n. unchanged (set-absent w k v h n))
       (λ n. clash (i .present k (may k c n)) h))))
-      (λ n c. unchanged (ap (λ (o : Outcome). o .table) (set-no-key room t j v n c)))
+      (λ n q. unchanged (ap (λ (o : Outcome). o .table) q))
     where
       w : WellFormed room t
       w = i .wellFormed
 
-      written : (k : Words) → canonicalKey j ≡ Key k → has (pairs t) k ≡ true → Inv room t₀ ((setKey room t k v) .table) allowed key handed (λ x. (isNil (getOf ((setKey room t k v) .table) x) ≡ false) × Through x)
-      written k c h =
+      may : (k : Words) → canonicalKey j ≡ Key k → isNil v ≡ false → member allowed k ≡ true
+      may k c n = rw c at (m n)
+
+      written : Decodes v → (k : Words) → canonicalKey j ≡ Key k → has (pairs t) k ≡ true → Inv room t₀ ((setKey room t k v) .table) allowed key handed (λ x. (isNil (getOf ((setKey room t k v) .table) x) ≡ false) × Through x)
+      written d k c h =
           let u : Table = (setKey room t k v) .table in
           let wu : WellFormed room u = setKey-kept room t k v w (pair-decodes w k h) d (canonical-own j k c) in
           let p : pairs u ≡ put (pairs t) k v = set-there w k v h in

@@ -1,34 +1,28 @@
 -- Demand 3: `walk`, at every moment of every history that began on a well-formed table. Assumes nothing.
-use mathlib.Core.Path.{_≡_, refl, sym, ap, _∙_}
+use mathlib.Core.Path.{_≡_, refl, sym, ap, subst, _∙_}
+use mathlib.Core.Bool.{false}
 use mathlib.Core.List.{List, [], append-nil}
 use Prim.Native.Nat.{suc, _≤_}
 use native.Mathlib.Omega.{arith}
 use lib.ListN.{length}
 use Rattle.value.specs.declared.Words.{Words}
-use Rattle.value.specs.Encoding.{decodes}
-use Rattle.value.specs.Same.{nil, isNil}
-use Rattle.value.proofs.Cases.{clash}
-use Rattle.value.proofs.Same.{same-refl}
+use Rattle.value.specs.Same.{isNil}
 use Rattle.model.specs.Entries.{Entry, keysOf, NextValue, found, last, notFound}
-use Rattle.model.specs.Table.{Room, Table, nextOf}
-use Rattle.model.specs.Calls.{Outcome}
+use Rattle.model.specs.Table.{Room, Table, getOf, nextOf}
 use Rattle.model.specs.WellFormed.{WellFormed}
 use Rattle.model.proofs.Entries.{length-keys}
-use Rattle.model.proofs.Refusals.{set-unchanged, reserve-refused}
 use Rattle.model.proofs.Next.{get-key}
-use Rattle.walk.specs.History.{liveKeys, History, begin, read, refusedSet, refusedReserve, clear, write, step, Throughout}
+use Rattle.walk.specs.History.{liveKeys, History, begin, still, set, step, Throughout}
 use Rattle.walk.specs.Walked.{atStart, TableWalked}
 use Rattle.walk.proofs.Lists.{no-longer, first-there}
-use Rattle.walk.proofs.Events.{Inv, value-there, next-first, unchanged, was-set, passed-by, shows, stepped, begun}
+use Rattle.walk.proofs.Events.{Inv, value-there, next-first, was-set, passed-by, shows, stepped, begun}
 
 holds : {room : Room} {t₀ t : Table} {allowed : List Words} {key : Words} {handed : List Entry} → WellFormed room t₀ → (w : History room t₀ t allowed key handed) → Inv room t₀ t allowed key handed (Throughout w)
-unfolding decodes
 holds w₀ begin = begun w₀
-holds w₀ (read w) = holds w₀ w
-holds {room = room} w₀ (refusedSet {t = t} k v r w) = unchanged (holds w₀ w) (set-unchanged room t k v (holds w₀ w .wellFormed) r)
-holds {room = room} w₀ (refusedReserve {t = t} n r w) = unchanged (holds w₀ w) (ap (λ (o : Outcome). o .table) (reserve-refused room t n r .0))
-holds w₀ (clear k w) = was-set (holds w₀ w) k nil refl (λ x c n. clash (same-refl nil) n)
-holds w₀ (write k v m d w) = was-set (holds w₀ w) k v d (λ x c n. rw c at m)
+holds {room = room} {t₀ = t₀} {allowed = allowed} {key = key} {handed = handed} w₀ (still e w) =
+    subst (λ (x : Table). Inv room t₀ x allowed key handed (Throughout w)) (sym e) (holds w₀ w)
+holds {room = room} {t₀ = t₀} {allowed = allowed} {key = key} {handed = handed} w₀ (set k v m e w) =
+    subst (λ (x : Table). Inv room t₀ x allowed key handed (λ j. (isNil (getOf x j) ≡ false) × Throughout w j)) (sym e) (was-set (holds w₀ w) k v m)
 holds w₀ (step k v n w) = stepped (holds w₀ w) k v n
 
 at-most : {room : Room} {t₀ t : Table} {allowed : List Words} {key : Words} {handed : List Entry} {Through : Words → Type 0} → Inv room t₀ t allowed key handed Through → length handed ≤ atStart t₀

@@ -3,14 +3,12 @@
 use mathlib.Core.Path.{_≡_}
 use mathlib.Core.Bool.{true, false}
 use mathlib.Core.List.{List, [], _∷_}
-use Prim.Native.Nat.{ℕ}
 use Rattle.value.specs.declared.Words.{Words}
-use Rattle.value.specs.Encoding.{Decodes}
 use Rattle.value.specs.Same.{nil, isNil}
 use Rattle.key.specs.Canonical.{canonicalKey, onKey}
 use Rattle.model.specs.Entries.{Entry, entry, keysOf, member, keep, live, found}
 use Rattle.model.specs.Table.{Room, Table, pairs, getOf, nextOf}
-use Rattle.model.specs.Calls.{setOf, reserveOf}
+use Rattle.model.specs.Calls.{setOf}
 
 -- the keys with a value
 unfoldable pub liveKeys : Table → List Words
@@ -20,23 +18,23 @@ liveKeys t = keysOf (keep live (pairs t))
 abbrev pub Among : List Words → Words → Type 0
 Among ks key = onKey (canonicalKey key) (λ n. ⊥) (λ k. member ks k ≡ true)
 
+-- a set that may come between steps: of Nil, or of anything to one of these keys
+abbrev pub May : List Words → Words → Words → Type 0
+May allowed k v = isNil v ≡ false → Among allowed k
+
 -- `History room t₀ t allowed key handed`: a walk began on t₀ and the table is t now; `allowed` are the keys that may be set to anything,
 -- `key` is the one last handed out, Nil before the first step, and `handed` is all that was handed out, the latest first
 pub data History (room : Room) (t₀ : Table) : Table → List Words → Words → List Entry → Type 0 where
   begin : History room t₀ t₀ (liveKeys t₀) nil []
-  read : {t : Table} {allowed : List Words} {key : Words} {handed : List Entry} → History room t₀ t allowed key handed → History room t₀ t allowed key handed
-  refusedSet : {t : Table} {allowed : List Words} {key : Words} {handed : List Entry} (k v : Words) → ((setOf room t k v) .refusal ≡ 0 → ⊥) → History room t₀ t allowed key handed → History room t₀ ((setOf room t k v) .table) allowed key handed
-  refusedReserve : {t : Table} {allowed : List Words} {key : Words} {handed : List Entry} (n : ℕ) → ((reserveOf room t n) .refusal ≡ 0 → ⊥) → History room t₀ t allowed key handed → History room t₀ ((reserveOf room t n) .table) allowed key handed
-  clear : {t : Table} {allowed : List Words} {key : Words} {handed : List Entry} (k : Words) → History room t₀ t allowed key handed → History room t₀ ((setOf room t k nil) .table) allowed key handed
-  write : {t : Table} {allowed : List Words} {key : Words} {handed : List Entry} (k v : Words) → Among allowed k → Decodes v → History room t₀ t allowed key handed → History room t₀ ((setOf room t k v) .table) allowed key handed
+  -- any call that leaves the table as it was: every read, and every refused call
+  still : {t u : Table} {allowed : List Words} {key : Words} {handed : List Entry} → u ≡ t → History room t₀ t allowed key handed → History room t₀ u allowed key handed
+  set : {t u : Table} {allowed : List Words} {key : Words} {handed : List Entry} (k v : Words) → May allowed k v → u ≡ (setOf room t k v) .table
+      → History room t₀ t allowed key handed → History room t₀ u allowed key handed
   step : {t : Table} {allowed : List Words} {key : Words} {handed : List Entry} (k v : Words) → nextOf t key ≡ found k v → History room t₀ t allowed key handed → History room t₀ t allowed k (entry k v ∷ handed)
 
 -- a key that has a value at every moment of the walk
 abbrev pub Throughout : {room : Room} {t₀ t : Table} {allowed : List Words} {key : Words} {handed : List Entry} → History room t₀ t allowed key handed → Words → Type 0
 Throughout {t₀ = t₀} begin j = isNil (getOf t₀ j) ≡ false
-Throughout (read w) j = Throughout w j
-Throughout {room = room} (refusedSet {t = t} k v r w) j = (isNil (getOf ((setOf room t k v) .table) j) ≡ false) × Throughout w j
-Throughout {room = room} (refusedReserve {t = t} n r w) j = (isNil (getOf ((reserveOf room t n) .table) j) ≡ false) × Throughout w j
-Throughout {room = room} (clear {t = t} k w) j = (isNil (getOf ((setOf room t k nil) .table) j) ≡ false) × Throughout w j
-Throughout {room = room} (write {t = t} k v m d w) j = (isNil (getOf ((setOf room t k v) .table) j) ≡ false) × Throughout w j
+Throughout (still e w) j = Throughout w j
+Throughout (set {u = u} k v m e w) j = (isNil (getOf u j) ≡ false) × Throughout w j
 Throughout (step k v n w) j = Throughout w j
