@@ -51,8 +51,8 @@ module _ (addresses : Addresses) where
   value-grown : (t : Table) (i : ℕ) → Right t → grownValueAt addresses (originalOf addresses t) i ≡ lookup t (integer (suc i))
   value-grown t i s =
       let k : Words = integer (suc i) in
-      rw (findCell-of addresses (t .entries) k)
-      (caseb (ltb i (length (t .array)))
+      ap (λ (x : Words). cond (isNil x) (getD (t .array) i nil) x) (findCell-of addresses (t .entries) k)
+      ∙ (caseb (ltb i (length (t .array)))
       (λ e. let h : i < length (t .array) = ltb-true i (length (t .array)) e in
       let l : i < largest = omega (arith, s .inRange) in
       let none : find (t .entries) k ≡ nil = find-absent (t .entries) k (absent k (within-integer (length (t .array)) i h l)) in
