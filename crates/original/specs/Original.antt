@@ -42,8 +42,8 @@ new = record { array = []; map = [] }
 abbrev pub isObject : Words → Bool
 isObject k = leb 4 (k .kind)
 
--- the address of each object: another for another object, that is for another kind or another handle of the host's. An address is not used
--- again, as it is not while the object lives
+-- where the host's objects stand: those of another kind or another handle are at another address. So an address is not used again where its
+-- object is gone; what the original does where the collector uses one again is in docs/DIFFERENCES.md
 pub record Addresses : Type 0 where
   pub address : Words → ℕ
   pub apart : (j k : Words) → isObject j ≡ true → isObject k ≡ true → address j ≡ address k → j ≡ k
