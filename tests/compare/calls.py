@@ -1,6 +1,6 @@
 """Sequences of calls as docs/DIFFERENCES.md writes them, and the replies of both sides to them, as texts. Assumes that no call of a sequence is faulty.
 
-Calls, with a semicolon between: set KEY .., each to true; clear KEY .., each set to nil; get KEY; next KEY; length; reserve N; and two that no trace has: sizes, and reserve_array N, which the original alone has.
+Calls, with a semicolon between: set KEY .., each to true; clear KEY .., each set to nil; get KEY; next KEY; length; reserve N; and three that no trace has: sizes, and, which the original alone has, reserve_array N and collect KEY, after which another object may stand where that one stood.
 Keys: nil, nan, s1 and t1 (the String and the Table with handle 1), 4 and 2^62 (Integers), I (the largest), 0.5 and 2.0^63 (Numbers), and rows of them, s1..s27 and 2^1..2^62.
 """
 
@@ -19,6 +19,7 @@ NAMED = {"nil": NOTHING, "nan": number(float("nan")), "I": integer(LARGEST)}
 ROW = re.compile(r"(s|t|2\^)(\d+)\.\.\1(\d+)")
 # Of the program `limits`: the kind of record that begins a sequence, and the words of each record.
 FRESH, FIELDS = 6, 5
+ONLY_THERE = ("reserve_array", "collect")
 
 
 def row_of(word):
@@ -71,6 +72,8 @@ def record_of(call):
         return trace.record(original.SIZES)
     if name == "reserve_array":
         return trace.record(original.RESERVE_ARRAY, struct.pack("<I", *passed))
+    if name == "collect":
+        return trace.record(original.COLLECT, trace.value(*passed))
     return getattr(trace, name)(*passed)
 
 
@@ -102,11 +105,11 @@ def by_original(sequences):
 
 
 def by_trace(program, calls):
-    """The trace program's replies. There is no reserve_array here, since the array's room is lent: it is passed over."""
-    given = b"".join(record_of(call) for call in calls if call[0] != "reserve_array")
+    """The trace program's replies. There is no reserve_array here, since the array's room is lent, and no object is collected, since the host owns them: these are passed over."""
+    given = b"".join(record_of(call) for call in calls if call[0] not in ONLY_THERE)
     out = subprocess.run(program, input=given, stdout=subprocess.PIPE, check=True).stdout
     found = (reply_text(*reply) for reply in trace.records(out))
-    return ["no such call" if call[0] == "reserve_array" else next(found, "no reply") for call in calls]
+    return ["no such call" if call[0] in ONLY_THERE else next(found, "no reply") for call in calls]
 
 
 def sizes_here(limits, calls):

@@ -7,8 +7,8 @@ from pathlib import Path
 HERE = Path(__file__).resolve().parent
 BUILD = HERE / "oracle/build"
 PROGRAM = HERE.parents[1] / "target/oracle/target/release/oracle"
-# Kinds of records that only the oracle has: a whole walk, which it makes by itself, the sizes of array and map, reserve_array, and the end of a trace in a panic.
-WALK, SIZES, RESERVE_ARRAY, PANIC = 6, 7, 8, 512
+# Kinds of records that only the oracle has: a whole walk, which it makes by itself, the sizes of array and map, reserve_array, the collection of an object, and the end of a trace in a panic.
+WALK, SIZES, RESERVE_ARRAY, COLLECT, PANIC = 6, 7, 8, 9, 512
 
 
 def replies(records):

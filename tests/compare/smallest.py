@@ -82,7 +82,6 @@ SHOWS = {
     "a cleared String is rehashed": lambda s: s.theirs == PANIC and s.never(STRING, LAST_KIND),
     "a cleared String is rehashed, though no key is new": lambda s: s.theirs == PANIC and s.key in s.ever,
     "another cleared key is kept": lambda s: s.cleared() and s.ours == NOT_FOUND and grew(*s.there) and grew(*s.here),
-    "a dead key of another kind": lambda s: s.parts("next") and s.never(STRING, LAST_KIND),
     "the array's size": lambda s: s.name == "sizes" and s.there[1][0] != s.here[1][0],
     "the array's size, seen by next": lambda s: s.parts("next") and s.never(INTEGER, INTEGER),
     "the array's size, seen by length": lambda s: s.parts("length"),

@@ -95,10 +95,10 @@ def remade(steps):
 
 
 def drawn_object(draw, span):
-    """An object of the kind that goes with its handle, so that no handle stands for two kinds."""
+    """An object of any kind: one handle under two kinds is two objects."""
     n = draw.below(span)
     handle = draw.of((1 + n, 1 + n, 0x500000000000 + 48 * n, WORD - 1 - n))
-    return STRING + handle % 6, handle
+    return STRING + draw.below(6), handle
 
 
 def drawn_value(draw):

@@ -8,8 +8,8 @@ use Rattle.model.specs.Entries.{Entry, Each}
 use Rattle.model.specs.Table.{Table, fresh, nextOf}
 use Rattle.model.specs.Manual.{Lists, end as last, more as then}
 use Rattle.model.specs.Calls.{Outcome}
-use Rattle.original.specs.Original.{Original, new}
-use Rattle.original.specs.Runs.{Call, get, set, reserve, Answer, was, Run, says, told, ours, Roomy, Runs, Kinds, Comparable}
+use Rattle.original.specs.Original.{Addresses, Original, new}
+use Rattle.original.specs.Runs.{Call, Answer, was, Run, says, told, ours, Roomy, Runs, Comparable}
 use Rattle.original.specs.Agreement.{Agree}
 use Rattle.original.proofs.Demand2.{demand2 as model-agrees}
 use Rattle.store.specs.declared.Record.{Record}
@@ -24,7 +24,7 @@ use Rattle.reads.specs.declared.GotWords.the-variants.{Value}
 use Rattle.reads.specs.declared.Measured.the-variants.{Length}
 use Rattle.reads.proofs.Unique.{get-done, length-done}
 use Rattle.writes.specs.Writes.{Left, Promised}
-use Rattle.demands.specs.Calls.{gotAnswer, leftAnswer, Called, none, got, wrote, reserved, ValuesPassed, Listed, end, more, Agrees}
+use Rattle.demands.specs.Calls.{gotAnswer, leftAnswer, Called, none, got, wrote, reserved, Listed, end, more, Agrees}
 use Rattle.table.specs.Stays.{Stays}
 use Rattle.table.proofs.Outcomes.{refusal-is, previous-is, table-is, set-stays, reserve-stays}
 
@@ -43,7 +43,7 @@ wrote-first {s = s} {o = o} {l = l} cs S p n rest =
       rest .2 ∙ ap (λ (x : Run). x .finally) run,
     )
 
-pub called : {s u : Store} {cs : List Call} {xs : List Answer} → Sound s → Each ValuesPassed cs → Called s cs xs u → Goes (ours (roomFor s) (tableOf s) cs) xs u
+pub called : {s u : Store} {cs : List Call} {xs : List Answer} → Sound s → Each Comparable cs → Called s cs xs u → Goes (ours (roomFor s) (tableOf s) cs) xs u
 called S a none = (S, refl, refl)
 called S a (got key r p m) =
     let rest = called S (a .1) m in
@@ -63,31 +63,25 @@ module _ {u : Store} (U : Sound u) where
   lists-listed (last p) = end (sound-shaped u U, λ S. p)
   lists-listed (then k v p m) = more k v (sound-shaped u U, λ S. p) (lists-listed m)
 
-  agrees : {kinds : Kinds} {o : Original} → Agree kinds (tableOf u) o → Agrees kinds u o
+  agrees : {addresses : Addresses} {o : Original} → Agree addresses (tableOf u) o → Agrees addresses u o
   agrees g =
       record {
         sound = U;
-        gets = λ key a n p. get-done _ key a p U ∙ ap Value (g .gets key n);
+        gets = λ key a d p. get-done _ key a p U ∙ ap Value (g .gets key d);
         walks = λ l m p q. g .walks l m (listed-lists p) q;
         ends = (g .end .0, g .end .1, lists-listed (g .end .2), g .end .3);
         lengths = λ a b c p. length-done _ a p U ∙ ap Length (g .lengths b c);
       }
 
-comparable-passes : (kinds : Kinds) (cs : List Call) → Each (Comparable kinds) cs → Each ValuesPassed cs
-comparable-passes kinds [] a = tt
-comparable-passes kinds (get key ∷ cs) a = (tt, comparable-passes kinds cs (a .1))
-comparable-passes kinds (set key v ∷ cs) a = ((a .0 .1, a .0 .2), comparable-passes kinds cs (a .1))
-comparable-passes kinds (reserve n ∷ cs) a = (tt, comparable-passes kinds cs (a .1))
-
-pub demand2 : (before after : Slices) (r : Record) → FreshMade before after (Stored r) → (kinds : Kinds) (cs : List Call) → Each (Comparable kinds) cs
-    → (xs : List Answer) (u : Store) → Called (store after r) cs xs u → Roomy xs → (ys : List Answer) (o : Original) → Runs new cs ys o → (xs ≡ ys) × Agrees kinds u o
-demand2 before after r f kinds cs a xs u m y ys o runs =
+pub demand2 : (before after : Slices) (r : Record) → FreshMade before after (Stored r) → (addresses : Addresses) (cs : List Call) → Each Comparable cs
+    → (xs : List Answer) (u : Store) → Called (store after r) cs xs u → Roomy xs → (ys : List Answer) (o : Original) → Runs addresses new cs ys o → (xs ≡ ys) × Agrees addresses u o
+demand2 before after r f addresses cs a xs u m y ys o runs =
     let s : Store = store after r in
     let S : Sound s = fresh-made-sound before after r f in
     let t : tableOf s ≡ fresh = ap tableOf (f .1) ∙ table-written (lengthsOf before) fresh in
     let run : ours (roomFor s) (tableOf s) cs ≡ ours (roomFor s) fresh cs = ap (λ (x : Table). ours (roomFor s) x cs) t in
-    let g = called S (comparable-passes kinds cs a) m in
+    let g = called S a m in
     let said : xs ≡ (ours (roomFor s) fresh cs) .said = g .1 ∙ ap (λ (x : Run). x .said) run in
     let finally : tableOf u ≡ (ours (roomFor s) fresh cs) .finally = g .2 ∙ ap (λ (x : Run). x .finally) run in
-    let all = model-agrees (roomFor s) (sound-formed s S .fair) kinds cs a (subst Roomy said y) ys o runs in
-    (said ∙ all .0, agrees (g .0) (subst (λ (x : Table). Agree kinds x o) (sym finally) (all .1)))
+    let all = model-agrees addresses (roomFor s) (sound-formed s S .fair) cs a (subst Roomy said y) ys o runs in
+    (said ∙ all .0, agrees (g .0) (subst (λ (x : Table). Agree addresses x o) (sym finally) (all .1)))

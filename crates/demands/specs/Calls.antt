@@ -7,8 +7,8 @@ use Rattle.value.specs.Encoding.{Decodes}
 use Rattle.value.specs.Same.{nil}
 use Rattle.model.specs.Entries.{Entry, entry}
 use Rattle.model.specs.Manual.{OneBorder, Lists}
-use Rattle.original.specs.Original.{Original, originalGet, originalNext, originalLength}
-use Rattle.original.specs.Runs.{Call, get, set, reserve, Answer, value, was, Kinds, Known}
+use Rattle.original.specs.Original.{Addresses, Original, originalGet, originalNext, originalLength}
+use Rattle.original.specs.Runs.{Call, get, set, reserve, Answer, value, was}
 use Rattle.original.specs.Agreement.{SamePairs, ClearedLargest}
 use Rattle.store.specs.Store.{Slices, Store}
 use Rattle.store.specs.Written.{Sound, tableOf}
@@ -40,22 +40,16 @@ pub data Called : Store → List Call → List Answer → Store → Type 0 where
   reserved : {s u : Store} {cs : List Call} {xs : List Answer} (n : ℕ) (after : Slices) (r : Reserved) → ReserveDone s n after r
       → Called (reserveLeft (s .sizes) after r .store) cs xs u → Called s (reserve n ∷ cs) (leftAnswer (reserveLeft (s .sizes) after r) ∷ xs) u
 
--- the words that are passed are values'
-abbrev pub ValuesPassed : Call → Type 0
-ValuesPassed (get key) = Unit {0}
-ValuesPassed (set key v) = Decodes key × Decodes v
-ValuesPassed (reserve n) = Unit {0}
-
 -- a walk by `next` from a key, with nothing between: these pairs, and then the end
 pub data Listed (s : Store) : Words → List Entry → Type 0 where
   end : {key : Words} → NextAnswers s key Last → Listed s key []
   more : {key : Words} {ss : List Entry} (k v : Words) → NextAnswers s key (Found k v) → Listed s k ss → Listed s key (entry k v ∷ ss)
 
 -- what agrees between a store and the original's table after the same calls
-pub record Agrees (kinds : Kinds) (s : Store) (r : Original) : Type 0 where
+pub record Agrees (addresses : Addresses) (s : Store) (r : Original) : Type 0 where
   pub sound : Sound s
-  pub gets : (key : Words) (a : GotWords) → Known kinds key → GetAnswers s key a → a ≡ Value (originalGet r key)
-  pub walks : (l m : List Entry) → Listed s nil l → Lists (originalNext r) nil m → SamePairs l m
+  pub gets : (key : Words) (a : GotWords) → Decodes key → GetAnswers s key a → a ≡ Value (originalGet addresses r key)
+  pub walks : (l m : List Entry) → Listed s nil l → Lists (originalNext addresses r) nil m → SamePairs l m
   -- both walks end
-  pub ends : (l : List Entry) × (m : List Entry) × Listed s nil l × Lists (originalNext r) nil m
-  pub lengths : (a : Measured) → OneBorder (tableOf s) → (ClearedLargest r → ⊥) → LengthAnswers s a → a ≡ Length (originalLength r)
+  pub ends : (l : List Entry) × (m : List Entry) × Listed s nil l × Lists (originalNext addresses r) nil m
+  pub lengths : (a : Measured) → OneBorder (tableOf s) → (ClearedLargest addresses r → ⊥) → LengthAnswers s a → a ≡ Length (originalLength addresses r)

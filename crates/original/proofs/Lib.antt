@@ -1,5 +1,6 @@
--- The original against our table: its view as a table of ours, leaves first, and the theorem of demand 2.
-pub mod View
+-- The original against our table: one of our tables as one of the original's, leaves first, and the theorem of demand 2.
+pub mod Addresses
+pub mod Cells
 pub mod Order
 pub mod Right
 pub mod Sets

@@ -1,5 +1,5 @@
--- A walk of the original's by `next` lists the pairs of its view, so after the same calls the two walks list the same pairs, each once,
--- whatever their order. Assumes nothing.
+-- A walk of the original's by `next` lists the pairs of the table that it stands for, so after the same calls the two walks list the same
+-- pairs, each once, whatever their order. Assumes nothing.
 use mathlib.Core.Path.{_≡_, refl, sym, ap, _∙_}
 use mathlib.Core.Bool.{true, false, not}
 use mathlib.Core.List.{List, [], _∷_, _++_}
@@ -14,68 +14,61 @@ use Rattle.key.specs.declared.CanonicalKey.the-variants.{Key}
 use Rattle.key.specs.Canonical.{integer, canonicalKey}
 use Rattle.key.proofs.Own.{canonical-integer}
 use Rattle.key.proofs.Original.{original-key, original-index}
-use Rattle.model.specs.Entries.{Entry, keysOf, distinct, has, keep, live, Each, first, from}
-use Rattle.model.specs.Table.{within, arrayPairs, pairs, lookup}
+use Rattle.model.specs.Entries.{Entry, keysOf, distinct, has, keep, live, first, from}
+use Rattle.model.specs.Table.{Table, within, arrayPairs, pairs, lookup}
 use Rattle.model.specs.Manual.{Lists, PairsOf}
 use Rattle.model.proofs.Array.{Inside, inside, has-array-within, key-of-pairs, find-pairs, distinct-pairs}
 use Rattle.model.proofs.Next.{from-array, from-append-not, lists, live-pairs}
-use Rattle.original.specs.Original.{Cell, Original, foundAt, firstCell, fromCell, firstPair, originalNext}
-use Rattle.original.specs.Runs.{Kinds, Known}
+use Rattle.original.specs.Original.{Addresses, firstCell, fromCell, firstPair, originalNext}
 use Rattle.original.specs.Agreement.{SamePairs}
-use Rattle.original.proofs.View.{cells, view, matches-shown}
-use Rattle.original.proofs.Right.{Lively, OriginalRight, there}
-use Rattle.original.proofs.Sets.{integer-known, view-numbered}
+use Rattle.original.proofs.Cells.{cellsOf, originalOf, matches-cell}
+use Rattle.original.proofs.Right.{Right, there, right-numbered}
 
 not-nil : (k : Words) → canonicalKey k ≡ Key k → eqb (k .kind) 0 ≡ false
 unfolding canonicalKey
 not-nil k c = caseb (eqb (k .kind) 0) (λ e. let q = rw e at c in never (cc)) (λ e. e)
 
-module _ (kinds : Kinds) where
-  -- ---- the map, its cells with a value alive
-  firstCell-shown : (cs : List Cell) → Each (Lively kinds) cs → firstCell cs ≡ first (cells kinds cs)
-  firstCell-shown [] a = refl
-  firstCell-shown (c ∷ cs) a =
-      caseb (isNil (c .value))
-      (λ e. rw e (firstCell-shown cs (a .1)))
-      (λ e. rw e (ap (λ k. foundAt k (c .value)) (a .0 (rw e))))
+module _ (addresses : Addresses) where
+  -- ---- the map
+  firstCell-of : (l : List Entry) → firstCell (cellsOf addresses l) ≡ first l
+  firstCell-of [] = refl
+  firstCell-of (s ∷ ss) = caseb (isNil (s .value)) (λ e. rw (e, firstCell-of ss)) (λ e. rw e)
 
-  firstPair-shown : (ss : List Entry) (cs : List Cell) → Each (Lively kinds) cs → firstPair ss cs ≡ first (ss ++ cells kinds cs)
-  firstPair-shown [] cs a = firstCell-shown cs a
-  firstPair-shown (s ∷ ss) cs a = rw (firstPair-shown ss cs a)
+  firstPair-of : (ss l : List Entry) → firstPair ss (cellsOf addresses l) ≡ first (ss ++ l)
+  firstPair-of [] l = firstCell-of l
+  firstPair-of (s ∷ ss) l = rw (firstPair-of ss l)
 
-  fromCell-shown : (cs : List Cell) (k : Words) → Known kinds k → Each (Lively kinds) cs → fromCell cs k ≡ from (cells kinds cs) k
-  fromCell-shown [] k n a = refl
-  fromCell-shown (c ∷ cs) k n a = rw (matches-shown kinds (c .key) k n, firstCell-shown cs (a .1), fromCell-shown cs k n (a .1))
+  fromCell-of : (l : List Entry) (k : Words) → fromCell addresses (cellsOf addresses l) k ≡ from l k
+  fromCell-of [] k = refl
+  fromCell-of (s ∷ ss) k = rw (matches-cell addresses s k, firstCell-of ss, fromCell-of ss k)
 
-  -- ---- next, through all pairs of the view
-  original-first : (r : Original) → OriginalRight kinds r → originalNext r nil ≡ first (pairs (view kinds r))
+  -- ---- next, through all pairs of the table
+  original-first : (t : Table) → originalNext addresses (originalOf addresses t) nil ≡ first (pairs t)
   unfolding originalNext canonicalKey pairs
-  original-first r s = rw (original-index nil) (firstPair-shown (arrayPairs 0 (r .array)) (r .map) (s .lively))
+  original-first t = rw (original-index nil) (firstPair-of (arrayPairs 0 (t .array)) (t .entries))
 
-  original-from : (r : Original) (k : Words) → OriginalRight kinds r → canonicalKey k ≡ Key k → Known kinds k → originalNext r k ≡ from (pairs (view kinds r)) k
+  original-from : (t : Table) (k : Words) → Right t → canonicalKey k ≡ Key k → originalNext addresses (originalOf addresses t) k ≡ from (pairs t) k
   unfolding originalNext pairs within
-  original-from r k s c n =
+  original-from t k s c =
       rw (original-index k, original-key k, c)
-      (caseb (within (length (r .array)) k)
-      (λ b. let x : Inside (length (r .array)) k = inside (length (r .array)) k b in
-      rw (b, x .index) (firstPair-shown (drop (suc (x .i)) (arrayPairs 0 (r .array))) (r .map) (s .lively)
-      ∙ sym (from-array (r .array) 0 (x .i) k (cells kinds (r .map)) (x .is ∙ ap integer (omega arith)) (x .i<))))
-      (λ b. rw (b, not-nil k c) (fromCell-shown (r .map) k n (s .lively)
-      ∙ sym (from-append-not (arrayPairs 0 (r .array)) (cells kinds (r .map)) k (has-array-within (r .array) k (view-numbered kinds r s) ∙ b)))))
+      (caseb (within (length (t .array)) k)
+      (λ b. let x : Inside (length (t .array)) k = inside (length (t .array)) k b in
+      rw (b, x .index) (firstPair-of (drop (suc (x .i)) (arrayPairs 0 (t .array))) (t .entries)
+      ∙ sym (from-array (t .array) 0 (x .i) k (t .entries) (x .is ∙ ap integer (omega arith)) (x .i<))))
+      (λ b. rw (b, not-nil k c) (fromCell-of (t .entries) k
+      ∙ sym (from-append-not (arrayPairs 0 (t .array)) (t .entries) k (has-array-within (t .array) k (right-numbered t s) ∙ b)))))
 
-  -- a key of the view is canonical and known
-  pair-key : (r : Original) (k : Words) → OriginalRight kinds r → has (pairs (view kinds r)) k ≡ true → (canonicalKey k ≡ Key k) × Known kinds k
-  pair-key r k s h =
-      key-of-pairs (λ x. (canonicalKey x ≡ Key x) × Known kinds x) (view kinds r) (view-numbered kinds r s) (λ n. (canonical-integer n, integer-known kinds n)) (λ x e. (there kinds r s x e .canonical, there kinds r s x e .known)) k h
-
-  pairs-once : (r : Original) → OriginalRight kinds r → distinct (keysOf (pairs (view kinds r)))
-  pairs-once r s = distinct-pairs (view kinds r) (view-numbered kinds r s) (s .apart) (λ k h. there kinds r s k h .outside)
-
-  pub original-lists : (r : Original) → OriginalRight kinds r → Lists (originalNext r) nil (keep live (pairs (view kinds r))) × PairsOf (lookup (view kinds r)) (keep live (pairs (view kinds r)))
-  original-lists r s = (
-    lists (originalNext r) (pairs (view kinds r)) (pairs-once r s) (λ k h. original-from r k s (pair-key r k s h .0) (pair-key r k s h .1)) (original-first r s),
-    live-pairs (lookup (view kinds r)) (pairs (view kinds r)) (pairs-once r s) (λ k. find-pairs (view kinds r) k (view-numbered kinds r s)),
+  pub original-lists : (t : Table) → Right t → Lists (originalNext addresses (originalOf addresses t)) nil (keep live (pairs t)) × PairsOf (lookup t) (keep live (pairs t))
+  original-lists t s = (
+    lists (originalNext addresses (originalOf addresses t)) (pairs t) once (λ k h. original-from t k s (key k h)) (original-first t),
+    live-pairs (lookup t) (pairs t) once (λ k. find-pairs t k (right-numbered t s)),
   )
+    where
+      once : distinct (keysOf (pairs t))
+      once = distinct-pairs t (right-numbered t s) (s .apart) (λ k h. there t s k h .outside)
+
+      key : (k : Words) → has (pairs t) k ≡ true → canonicalKey k ≡ Key k
+      key = key-of-pairs (λ x. canonicalKey x ≡ Key x) t (right-numbered t s) canonical-integer (λ x e. there t s x e .canonical)
 
 -- ---- two maps with the same values have the same pairs
 pub same-pairs : (m n : Words → Words) (k l : List Entry) → ((j : Words) → m j ≡ n j) → PairsOf m k → PairsOf n l → SamePairs k l

@@ -1,16 +1,14 @@
--- A sequence of calls on our table and on the original's, from fresh, and which sequences are compared (demand 2). Assumes nothing.
+-- A sequence of calls on our table and on the original's, from fresh, and which calls are compared (demand 2). Assumes nothing.
 use mathlib.Core.Path.{_≡_}
-use mathlib.Core.Bool.{true}
 use mathlib.Core.List.{List, [], _∷_}
 use Prim.Native.Nat.{ℕ}
-use lib.Dec.{leb}
 use Rattle.value.specs.declared.Words.{Words}
 use Rattle.value.specs.Encoding.{Decodes}
 use Rattle.value.specs.Same.{nil}
 use Rattle.key.specs.Refusals.{noRoom}
 use Rattle.model.specs.Table.{Room, Table, getOf}
 use Rattle.model.specs.Calls.{Outcome, setOf, reserveOf}
-use Rattle.original.specs.Original.{Cell, Original, isObject, Choice, withMap, originalGet, originalSet, originalReserve}
+use Rattle.original.specs.Original.{Cell, Original, Addresses, Choice, withMap, originalGet, originalSet, originalReserve}
 
 -- `next` and `length` change nothing: what they answer after any of these is compared in `Agreement`
 pub data Call : Type 0 where
@@ -47,29 +45,24 @@ Roomy (value v ∷ rs) = Roomy rs
 Roomy (was n v ∷ rs) = (n ≡ noRoom → ⊥) × Roomy rs
 
 -- ---- the original's: any choice at each call, and any order of the map after it
-pub data Shuffled : List Cell → List Cell → Type 0 where
-  still : {l : List Cell} → Shuffled l l
-  swapped : {l : List Cell} (a b : Cell) → Shuffled (a ∷ b ∷ l) (b ∷ a ∷ l)
-  under : {l m : List Cell} (c : Cell) → Shuffled l m → Shuffled (c ∷ l) (c ∷ m)
-  then : {l m n : List Cell} → Shuffled l m → Shuffled m n → Shuffled l n
+pub data Shuffled {X : Type 0} : List X → List X → Type 0 where
+  still : {l : List X} → Shuffled l l
+  swapped : {l : List X} (a b : X) → Shuffled (a ∷ b ∷ l) (b ∷ a ∷ l)
+  under : {l m : List X} (c : X) → Shuffled l m → Shuffled (c ∷ l) (c ∷ m)
+  then : {l m n : List X} → Shuffled l m → Shuffled m n → Shuffled l n
 
-pub data Runs : Original → List Call → List Answer → Original → Type 0 where
-  stopped : {r : Original} → Runs r [] [] r
-  got : {r u : Original} {cs : List Call} {xs : List Answer} (key : Words) → Runs r cs xs u → Runs r (get key ∷ cs) (value (originalGet r key) ∷ xs) u
-  written : {r u : Original} {cs : List Call} {xs : List Answer} (c : Choice) (key v : Words) {m : List Cell} → Shuffled ((originalSet c r key v) .now .map) m
-      → Runs (withMap ((originalSet c r key v) .now) m) cs xs u → Runs r (set key v ∷ cs) (was ((originalSet c r key v) .refusal) ((originalSet c r key v) .previous) ∷ xs) u
+pub data Runs (addresses : Addresses) : Original → List Call → List Answer → Original → Type 0 where
+  stopped : {r : Original} → Runs addresses r [] [] r
+  got : {r u : Original} {cs : List Call} {xs : List Answer} (key : Words) → Runs addresses r cs xs u
+      → Runs addresses r (get key ∷ cs) (value (originalGet addresses r key) ∷ xs) u
+  written : {r u : Original} {cs : List Call} {xs : List Answer} (c : Choice) (key v : Words) {m : List Cell} → Shuffled ((originalSet addresses c r key v) .now .map) m
+      → Runs addresses (withMap ((originalSet addresses c r key v) .now) m) cs xs u
+      → Runs addresses r (set key v ∷ cs) (was ((originalSet addresses c r key v) .refusal) ((originalSet addresses c r key v) .previous) ∷ xs) u
   reserved : {r u : Original} {cs : List Call} {xs : List Answer} (c : Choice) (n : ℕ) {m : List Cell} → Shuffled ((originalReserve c r) .map) m
-      → Runs (withMap (originalReserve c r) m) cs xs u → Runs r (reserve n ∷ cs) (was 0 nil ∷ xs) u
+      → Runs addresses (withMap (originalReserve c r) m) cs xs u → Runs addresses r (reserve n ∷ cs) (was 0 nil ∷ xs) u
 
--- ---- which calls are compared: the values are values, and a handle stands for one object, of one kind, as an address does in the original
-pub record Kinds : Type 0 where
-  pub kindAt : ℕ → ℕ
-  pub object : (h : ℕ) → leb 4 (kindAt h) ≡ true
-
-abbrev pub Known : Kinds → Words → Type 0
-Known kinds k = isObject k ≡ true → k .kind ≡ kinds .kindAt (k .payload)
-
-abbrev pub Comparable : Kinds → Call → Type 0
-Comparable kinds (get key) = Known kinds key
-Comparable kinds (set key v) = Known kinds key × Decodes key × Decodes v
-Comparable kinds (reserve n) = Unit {0}
+-- ---- which calls are compared: those that are passed values, as the original always is
+abbrev pub Comparable : Call → Type 0
+Comparable (get key) = Decodes key
+Comparable (set key v) = Decodes key × Decodes v
+Comparable (reserve n) = Unit {0}

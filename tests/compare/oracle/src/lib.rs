@@ -1,5 +1,5 @@
 //! The original's raw.rs, table.rs and value.rs, which `build` puts beside this file, among stand-ins for gc_arena and for the types around.
-//! Assumes that no object is followed but tables made by `Table::new`: a handle is an address, and objects are compared and hashed by theirs.
+//! Assumes that no object is followed but tables made by `Table::new`: of the others there is only an address, by which they are compared and hashed.
 #![allow(deprecated)]
 extern crate self as gc_arena;
 
@@ -63,8 +63,8 @@ impl<'gc, T> Gc<'gc, T> {
         Gc(Box::into_raw(Box::new(object)), PhantomData)
     }
 
-    pub fn from_handle(handle: u64) -> Self {
-        Gc(handle as usize as *const T, PhantomData)
+    pub fn from_address(address: u64) -> Self {
+        Gc(address as usize as *const T, PhantomData)
     }
 
     pub fn as_ptr(gc: Self) -> *const T {

@@ -1,7 +1,10 @@
 //! Answers traces by the original's table. Standard input, for each trace: a 32-bit number for the hashing, the 32-bit length of the records, and 01's trace records, each of them right.
-//! Three kinds more: 6 walks by the original's `Iter` and is answered by the replies of the `next` calls that it makes; 7 answers the sizes, three 64-bit numbers; 8 is `reserve_array` (32-bit n).
+//! Four kinds more: 6 walks by the original's `Iter` and is answered by the replies of the `next` calls that it makes; 7 answers the sizes, three 64-bit numbers; 8 is `reserve_array` (32-bit n); 9 collects an object, which must have no value in the table.
 //! Standard output, for each trace: a 32-bit length and the replies.
 //! Where the table panics, a record of kind 512 with the message is the last.
+mod addresses;
+
+use addresses::Addresses;
 use oracle::{Callback, Closure, Function, Gc, InvalidTableKey, Mutation, String, Table, Thread, UserData, Value};
 use oracle::{mutate, seed, table::NextValue};
 use std::{
@@ -15,41 +18,50 @@ const WALK: u16 = 6;
 const NEXT: u16 = 4;
 const SIZES: u16 = 7;
 const RESERVE_ARRAY: u16 = 8;
+const COLLECT: u16 = 9;
 const PANIC: u16 = 512;
 
-fn value<'gc>(bytes: &[u8]) -> Value<'gc> {
-    let payload = u64::from_le_bytes(bytes[1..9].try_into().unwrap());
-    match bytes[0] {
-        0 => Value::Nil,
-        1 => Value::Boolean(payload == 1),
-        2 => Value::Integer(payload as i64),
-        3 => Value::Number(f64::from_bits(payload)),
-        4 => Value::String(String(Gc::from_handle(payload))),
-        5 => Value::Table(Table::from_inner(Gc::from_handle(payload))),
-        6 => Value::Function(Function::Closure(Closure(Gc::from_handle(payload)))),
-        7 => Value::Function(Function::Callback(Callback(Gc::from_handle(payload)))),
-        8 => Value::Thread(Thread(Gc::from_handle(payload))),
-        9 => Value::UserData(UserData(Gc::from_handle(payload))),
+fn payload(bytes: &[u8]) -> u64 {
+    u64::from_le_bytes(bytes[1..9].try_into().unwrap())
+}
+
+fn value<'gc>(objects: &mut Addresses, bytes: &[u8]) -> Value<'gc> {
+    let (kind, payload) = (bytes[0], payload(bytes));
+    match kind {
+        0 => return Value::Nil,
+        1 => return Value::Boolean(payload == 1),
+        2 => return Value::Integer(payload as i64),
+        3 => return Value::Number(f64::from_bits(payload)),
+        _ => {}
+    }
+    let address = objects.address((kind, payload));
+    match kind {
+        4 => Value::String(String(Gc::from_address(address))),
+        5 => Value::Table(Table::from_inner(Gc::from_address(address))),
+        6 => Value::Function(Function::Closure(Closure(Gc::from_address(address)))),
+        7 => Value::Function(Function::Callback(Callback(Gc::from_address(address)))),
+        8 => Value::Thread(Thread(Gc::from_address(address))),
+        9 => Value::UserData(UserData(Gc::from_address(address))),
         kind => panic!("no value is of kind {kind}"),
     }
 }
 
-fn handle<T>(object: Gc<'_, T>) -> u64 {
-    Gc::as_ptr(object) as usize as u64
+fn handle<T>(objects: &Addresses, object: Gc<'_, T>) -> u64 {
+    objects.handle(Gc::as_ptr(object) as usize as u64)
 }
 
-fn put(out: &mut Vec<u8>, value: Value<'_>) {
+fn put(out: &mut Vec<u8>, objects: &Addresses, value: Value<'_>) {
     let (kind, payload) = match value {
         Value::Nil => (0, 0),
         Value::Boolean(b) => (1, b as u64),
         Value::Integer(i) => (2, i as u64),
         Value::Number(x) => (3, x.to_bits()),
-        Value::String(s) => (4, handle(s.into_inner())),
-        Value::Table(t) => (5, handle(t.into_inner())),
-        Value::Function(Function::Closure(c)) => (6, handle(c.into_inner())),
-        Value::Function(Function::Callback(c)) => (7, handle(c.into_inner())),
-        Value::Thread(t) => (8, handle(t.into_inner())),
-        Value::UserData(u) => (9, handle(u.into_inner())),
+        Value::String(s) => (4, handle(objects, s.into_inner())),
+        Value::Table(t) => (5, handle(objects, t.into_inner())),
+        Value::Function(Function::Closure(c)) => (6, handle(objects, c.into_inner())),
+        Value::Function(Function::Callback(c)) => (7, handle(objects, c.into_inner())),
+        Value::Thread(t) => (8, handle(objects, t.into_inner())),
+        Value::UserData(u) => (9, handle(objects, u.into_inner())),
     };
     out.push(kind);
     out.extend_from_slice(&u64::to_le_bytes(payload));
@@ -61,40 +73,46 @@ fn put_record(out: &mut Vec<u8>, kind: u16, body: &[u8]) {
     out.extend_from_slice(body);
 }
 
-fn put_pair(out: &mut Vec<u8>, key: Value<'_>, value: Value<'_>) {
+fn put_pair(out: &mut Vec<u8>, objects: &Addresses, key: Value<'_>, value: Value<'_>) {
     out.push(0);
-    put(out, key);
-    put(out, value);
+    put(out, objects, key);
+    put(out, objects, value);
 }
 
-fn walk(table: Table<'_>, out: &mut Vec<u8>) {
+fn walk(objects: &Addresses, table: Table<'_>, out: &mut Vec<u8>) {
     for (key, value) in table.iter() {
         let mut body = Vec::new();
-        put_pair(&mut body, key, value);
+        put_pair(&mut body, objects, key, value);
         put_record(out, REPLY + NEXT, &body);
     }
     put_record(out, REPLY + NEXT, &[1]);
 }
 
-fn put_set(out: &mut Vec<u8>, answer: Result<Value<'_>, InvalidTableKey>) {
+fn put_set(out: &mut Vec<u8>, objects: &Addresses, answer: Result<Value<'_>, InvalidTableKey>) {
     let (refusal, previous) = match answer {
         Ok(previous) => (0, previous),
         Err(InvalidTableKey::IsNil) => (1, Value::Nil),
         Err(InvalidTableKey::IsNaN) => (2, Value::Nil),
     };
     out.push(refusal);
-    put(out, previous);
+    put(out, objects, previous);
 }
 
 // the body of the reply to any call but a walk
-fn reply<'gc>(mc: &Mutation<'gc>, table: Table<'gc>, kind: u16, body: &[u8]) -> Vec<u8> {
+fn reply<'gc>(mc: &Mutation<'gc>, objects: &mut Addresses, table: Table<'gc>, kind: u16, body: &[u8]) -> Vec<u8> {
     let mut out = Vec::new();
     match kind {
-        1 => put(&mut out, table.get_value(value(body))),
-        2 => put_set(&mut out, table.set_value(mc, value(body), value(&body[9..]))),
+        1 => {
+            let answer = table.get_value(value(objects, body));
+            put(&mut out, objects, answer);
+        }
+        2 => {
+            let answer = table.set_value(mc, value(objects, body), value(objects, &body[9..]));
+            put_set(&mut out, objects, answer);
+        }
         3 => out.extend_from_slice(&table.length().to_le_bytes()),
-        NEXT => match table.next(value(body)) {
-            NextValue::Found { key, value } => put_pair(&mut out, key, value),
+        NEXT => match table.next(value(objects, body)) {
+            NextValue::Found { key, value } => put_pair(&mut out, objects, key, value),
             NextValue::Last => out.push(1),
             NextValue::NotFound => out.push(2),
         },
@@ -111,6 +129,10 @@ fn reply<'gc>(mc: &Mutation<'gc>, table: Table<'gc>, kind: u16, body: &[u8]) -> 
             table.into_inner().borrow_mut(mc).raw_table.reserve_array(number(body).0);
             out.push(0);
         }
+        COLLECT => {
+            objects.collect((body[0], payload(body)));
+            out.push(0);
+        }
         kind => panic!("no call is of kind {kind}"),
     }
     out
@@ -122,17 +144,17 @@ fn message(panic: &(dyn Any + Send)) -> &str {
 }
 
 fn answer(mc: &Mutation<'_>, mut trace: &[u8]) -> Vec<u8> {
-    let (table, mut out) = (Table::new(mc), Vec::new());
+    let (table, mut objects, mut out) = (Table::new(mc), Addresses::default(), Vec::new());
     while !trace.is_empty() {
         let (size, rest) = trace.split_at(2);
         let (record, rest) = rest.split_at(u16::from_le_bytes(size.try_into().unwrap()) as usize);
         let kind = u16::from_le_bytes(record[..2].try_into().unwrap());
         trace = rest;
         if kind == WALK {
-            walk(table, &mut out);
+            walk(&objects, table, &mut out);
             continue;
         }
-        match catch_unwind(AssertUnwindSafe(|| reply(mc, table, kind, &record[2..]))) {
+        match catch_unwind(AssertUnwindSafe(|| reply(mc, &mut objects, table, kind, &record[2..]))) {
             Ok(body) => put_record(&mut out, REPLY + kind, &body),
             Err(panic) => {
                 put_record(&mut out, PANIC, message(&*panic).as_bytes());
