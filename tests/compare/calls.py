@@ -1,6 +1,6 @@
 """Sequences of calls as docs/DIFFERENCES.md writes them, and the replies of both sides to them, as texts. Assumes that no call of a sequence is faulty.
 
-Calls, with a semicolon between: set KEY .., each to true; clear KEY .., each set to nil; get KEY; next KEY; length; reserve N; and three that no trace has: sizes, and, which the original alone has, reserve_array N and collect KEY, after which another object may stand where that one stood.
+Calls, with a semicolon between: set KEY .., each to true; clear KEY .., each set to nil; get KEY; next KEY; length; reserve N, which no trace has where N is 2^32 or more; and three that no trace has: sizes, and, which the original alone has, reserve_array N and collect KEY, after which another object may stand where that one stood.
 Keys: nil, nan, s1 and t1 (the String and the Table with handle 1), 4 and 2^62 (Integers), I (the largest), 0.5 and 2.0^63 (Numbers), and rows of them, s1..s27 and 2^1..2^62.
 """
 
@@ -20,6 +20,8 @@ ROW = re.compile(r"(s|t|2\^)(\d+)\.\.\1(\d+)")
 # Of the program `limits`: the kind of record that begins a sequence, and the words of each record.
 FRESH, FIELDS = 6, 5
 ONLY_THERE = ("reserve_array", "collect")
+# Replies of the original's that are its last.
+ENDS = {original.PANIC: "panic: ", original.ABORT: "abort: "}
 
 
 def row_of(word):
@@ -65,6 +67,11 @@ def calls_of(text):
     return calls
 
 
+def wide(call):
+    """Whether it is a reserve of a number that a trace's record has no room for."""
+    return call[0] == "reserve" and call[1] >= 2**32
+
+
 def record_of(call):
     """As the oracle takes it."""
     name, *passed = call
@@ -74,6 +81,8 @@ def record_of(call):
         return trace.record(original.RESERVE_ARRAY, struct.pack("<I", *passed))
     if name == "collect":
         return trace.record(original.COLLECT, trace.value(*passed))
+    if wide(call):
+        return trace.record(trace.RESERVE, struct.pack("<Q", *passed))
     return getattr(trace, name)(*passed)
 
 
@@ -82,8 +91,8 @@ def sizes_text(size, entries, room):
 
 
 def reply_text(kind, body):
-    if kind == original.PANIC:
-        return "panic: " + body.decode()
+    if kind in ENDS:
+        return ENDS[kind] + body.decode()
     if kind == trace.FAULT:
         return f"fault {body[0]}"
     kind -= trace.REPLY
@@ -98,33 +107,42 @@ def reply_text(kind, body):
     return f"refused {body[0]}" if body[0] else "done"
 
 
-def by_original(sequences):
-    """The original's replies to sequences, each with its hash seed; after a panic there are no more."""
-    outs = original.replies([(seed, b"".join(map(record_of, calls))) for seed, calls in sequences])
+def by_original(sequences, memory=None):
+    """The original's replies to sequences, each with its hash seed; after a panic there are no more, and an abort is alone."""
+    outs = original.replies([(seed, b"".join(map(record_of, calls))) for seed, calls in sequences], memory)
     return [[reply_text(*reply) for reply in trace.records(out)] for out in outs]
 
 
-def by_trace(program, calls):
+def written(program, given, memory):
+    """What one of our programs writes for an input."""
+    return subprocess.run(program, input=given, stdout=subprocess.PIPE, check=True, preexec_fn=original.within(memory)).stdout
+
+
+def by_trace(program, calls, memory):
     """The trace program's replies. There is no reserve_array here, since the array's room is lent, and no object is collected, since the host owns them: these are passed over."""
     given = b"".join(record_of(call) for call in calls if call[0] not in ONLY_THERE)
-    out = subprocess.run(program, input=given, stdout=subprocess.PIPE, check=True).stdout
-    found = (reply_text(*reply) for reply in trace.records(out))
+    found = (reply_text(*reply) for reply in trace.records(written(program, given, memory)))
     return ["no such call" if call[0] in ONLY_THERE else next(found, "no reply") for call in calls]
 
 
-def sizes_here(limits, calls):
-    """A, E and M that the program `limits` tells after these calls, with the trace program's room lent."""
+def by_limits(limits, calls, memory):
+    """What the program `limits` writes of the last of these calls, with the trace program's room lent: the number it answers, and A, M and E after it."""
     words = [FRESH, *lent(trace.ROOM, trace.ENTRY_ROOM), 0]
     for name, *passed in calls:
         flat = [trace.KINDS[name]] + [word for part in passed for word in (part if isinstance(part, tuple) else (part,))]
         words += flat + [0] * (FIELDS - len(flat))
-    out = subprocess.run(limits, input=struct.pack(f"<{len(words)}Q", *words), stdout=subprocess.PIPE, check=True).stdout
-    size, allowance, count = out.decode().splitlines()[-1].rpartition(", ")[2].split()
-    return sizes_text(size, count, allowance)
+    line = written(limits, struct.pack(f"<{len(words)}Q", *words), memory).decode().splitlines()[-1]
+    answer, _, record = line.rpartition(": ")[2].rpartition(", ")
+    return int(answer.split()[0]), record.split()
 
 
-def by_ours(program, limits, calls):
-    """Our replies; the sizes, which no trace tells, by the program `limits`, where they come last."""
-    if calls[-1] != ("sizes",):
-        return by_trace(program, calls)
-    return by_trace(program, calls[:-1]) + [sizes_here(limits, calls[:-1])]
+def by_ours(program, limits, calls, memory=None):
+    """Our replies. What no trace has, sizes or a reserve of 2^32 or more, is asked of the program `limits`, and only where it comes last."""
+    *before, last = calls
+    if last == ("sizes",):
+        _, (size, allowance, count) = by_limits(limits, before, memory)
+        return by_trace(program, before, memory) + [sizes_text(size, count, allowance)]
+    if wide(last):
+        refusal, _ = by_limits(limits, calls, memory)
+        return by_trace(program, before, memory) + [reply_text(trace.REPLY + trace.RESERVE, bytes([refusal]))]
+    return by_trace(program, calls, memory)

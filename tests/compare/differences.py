@@ -16,6 +16,7 @@ DOCUMENT = TESTS.parent / "docs/DIFFERENCES.md"
 COLUMNS = ["Difference", "Input", "The original", "The manual", "Here"]
 CODE = re.compile(r"`([^`]+)`")
 SEED = re.compile(r"hash seed (\d+)")
+MEMORY = re.compile(r"(\d+) GiB of memory")
 VARIES = "goes by the hash seed"
 SEEDS = range(256)
 
@@ -25,6 +26,7 @@ class Row:
     name: str
     text: str
     seed: int
+    memory: int | None  # the bytes that there are; None: no limit is set
     theirs: str  # the last reply of the original
     varies: bool  # whether that goes by the hash seed
     manual: str  # the whole cell, which begins with the verdict
@@ -39,11 +41,11 @@ def cells(line):
 
 
 def row_of(line):
-    """Of a cell its first code is taken; of the input's the hash seed too, 0 where none is said."""
+    """Of a cell its first code is taken; of the input's the hash seed too, 0 where none is said, and the memory."""
     name, given, theirs, manual, ours = cells(line)
-    seed = SEED.search(given)
+    seed, memory = SEED.search(given), MEMORY.search(given)
     first = [CODE.search(cell)[1] for cell in (given, theirs, ours)]
-    return Row(name, first[0], int(seed[1]) if seed else 0, first[1], VARIES in theirs, manual, first[2])
+    return Row(name, first[0], int(seed[1]) if seed else 0, int(memory[1]) << 30 if memory else None, first[1], VARIES in theirs, manual, first[2])
 
 
 def rows():
@@ -65,7 +67,7 @@ def wrong(row, calls, theirs, ours):
         return [f"the original ends after {len(theirs)} of {len(calls)} calls: {theirs[-1]}"]
     told = [f"the original answers {theirs[-1]}"] * (theirs[-1] != row.theirs)
     told += [f"here the answer is {ours[-1]}"] * (ours[-1] != row.ours)
-    if (len({str(replies[-1:]) for replies in by_original([(seed, calls) for seed in SEEDS])}) > 1) != row.varies:
+    if (len({str(replies[-1:]) for replies in by_original([(seed, calls) for seed in SEEDS], row.memory)}) > 1) != row.varies:
         told.append(f"whether it {VARIES} is not as said")
     judged = verdict(calls, theirs, ours)
     return told + [f"the manual {judged}"] * (not row.manual.startswith(judged))
@@ -74,8 +76,9 @@ def wrong(row, calls, theirs, ours):
 def main():
     *program, limits = sys.argv[1:]
     listed, failed = rows(), 0
-    for row, theirs in zip(listed, by_original([(row.seed, row.calls()) for row in listed])):
-        ours = by_ours(program, limits, row.calls())
+    for row in listed:
+        (theirs,) = by_original([(row.seed, row.calls())], row.memory)
+        ours = by_ours(program, limits, row.calls(), row.memory)
         told = wrong(row, row.calls(), theirs, ours)
         failed += bool(told)
         print(f"{row.name}: {row.text}: original {theirs[-1]}, here {ours[-1]}: {'ok' if not told else 'NOT AS LISTED: ' + '; '.join(told)}")

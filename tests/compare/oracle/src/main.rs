@@ -1,5 +1,5 @@
 //! Answers traces by the original's table. Standard input, for each trace: a 32-bit number for the hashing, the 32-bit length of the records, and 01's trace records, each of them right.
-//! Four kinds more: 6 walks by the original's `Iter` and is answered by the replies of the `next` calls that it makes; 7 answers the sizes, three 64-bit numbers; 8 is `reserve_array` (32-bit n); 9 collects an object, which must have no value in the table.
+//! Four kinds more: 6 walks by the original's `Iter` and is answered by the replies of the `next` calls that it makes; 7 answers the sizes, three 64-bit numbers; 8 is `reserve_array` (32-bit n); 9 collects an object, which must have no value in the table. The n of a reserve may also have 64 bits.
 //! Standard output, for each trace: a 32-bit length and the replies.
 //! Where the table panics, a record of kind 512 with the message is the last.
 mod addresses;
@@ -117,7 +117,7 @@ fn reply<'gc>(mc: &Mutation<'gc>, objects: &mut Addresses, table: Table<'gc>, ki
             NextValue::NotFound => out.push(2),
         },
         5 => {
-            table.into_inner().borrow_mut(mc).raw_table.reserve_map(number(body).0);
+            table.into_inner().borrow_mut(mc).raw_table.reserve_map(whole(body));
             out.push(0);
         }
         SIZES => {
@@ -168,6 +168,11 @@ fn answer(mc: &Mutation<'_>, mut trace: &[u8]) -> Vec<u8> {
 fn number(bytes: &[u8]) -> (usize, &[u8]) {
     let (number, rest) = bytes.split_at(4);
     (u32::from_le_bytes(number.try_into().unwrap()) as usize, rest)
+}
+
+// of 32 or 64 bits, as many as there are
+fn whole(bytes: &[u8]) -> usize {
+    bytes.iter().rev().fold(0, |n, byte| n << 8 | *byte as usize)
 }
 
 fn main() {
