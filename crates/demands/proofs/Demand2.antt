@@ -4,10 +4,12 @@ use mathlib.Core.Path.{_≡_, refl, sym, ap, ap₂, subst, _∙_}
 use mathlib.Core.List.{List, [], _∷_}
 use Prim.Native.Nat.{ℕ}
 use Rattle.value.specs.declared.Words.{Words}
+use Rattle.value.specs.Encoding.{Decodes}
 use Rattle.model.specs.Entries.{Entry, Each}
 use Rattle.model.specs.Table.{Table, fresh, nextOf}
 use Rattle.model.specs.Manual.{Lists, end as last, more as then}
 use Rattle.model.specs.Calls.{Outcome}
+use Rattle.model.proofs.Kept.{nil-decodes, next-decodes}
 use Rattle.original.specs.Original.{Addresses, Original, new}
 use Rattle.original.specs.Runs.{Call, Answer, was, Run, says, told, ours, Roomy, Runs, Comparable}
 use Rattle.original.specs.Agreement.{Agree}
@@ -34,7 +36,7 @@ abbrev pub Goes : Run → List Answer → Store → Type 0
 Goes run xs u = Sound u × (xs ≡ run .said) × (tableOf u ≡ run .finally)
 
 -- a call that writes, and then these calls
-wrote-first : {s u : Store} {o : Outcome} {Numbers : ℕ → Type 0} {Given : Type 0} {l : Left} (cs : List Call) {xs : List Answer} → Sound s → Promised s o Numbers Given l → Stays s (l .store)
+wrote-first : {s u : Store} {o : Outcome} {Numbers : ℕ → Type 0} {l : Left} (cs : List Call) {xs : List Answer} → Sound s → Promised s o Numbers l → Stays s (l .store)
     → Goes (ours (roomFor (l .store)) (tableOf (l .store)) cs) xs u → Goes (says (told o) (ours (roomFor s) (o .table) cs)) (leftAnswer l ∷ xs) u
 wrote-first {s = s} {o = o} {l = l} cs S p n rest =
     let run : ours (roomFor (l .store)) (tableOf (l .store)) cs ≡ ours (roomFor s) (o .table) cs = λ j. ours (roomOf (n .lengths j)) (table-is S p j) cs in (
@@ -47,29 +49,31 @@ pub called : {s u : Store} {cs : List Call} {xs : List Answer} → Sound s → E
 called S a none = (S, refl, refl)
 called S a (got key r p m) =
     let rest = called S (a .1) m in
-    (rest .0, ap₂ {C = List Answer} (λ x y. x ∷ y) (ap gotAnswer (get-done _ key r p S)) (rest .1), rest .2)
+    (rest .0, ap₂ {C = List Answer} (λ x y. x ∷ y) (ap gotAnswer (get-done _ key r p S (a .0))) (rest .1), rest .2)
 called S a (wrote {cs = cs} key v after r p m) =
-    let n = set-stays key v S (a .0 .0) (a .0 .1) (p .1) in wrote-first cs S (p .1) n (called (n .sound) (a .1) m)
+    let n = set-stays key v S (p .1) in wrote-first cs S (p .1) n (called (n .sound) (a .1) m)
 called S a (reserved {cs = cs} k after r p m) =
     let n = reserve-stays k S (p .1) in wrote-first cs S (p .1) n (called (n .sound) (a .1) m)
 
 -- ---- what agrees of the table agrees of the store
 module _ {u : Store} (U : Sound u) where
   listed-lists : {key : Words} {l : List Entry} → Listed u key l → Lists (nextOf (tableOf u)) key l
-  listed-lists (end p) = last (p .1 U)
-  listed-lists (more k v p m) = then k v (p .1 U) (listed-lists m)
+  listed-lists (end p) = last (p .2 U)
+  listed-lists (more k v p m) = then k v (p .2 U) (listed-lists m)
 
-  lists-listed : {key : Words} {l : List Entry} → Lists (nextOf (tableOf u)) key l → Listed u key l
-  lists-listed (last p) = end (sound-shaped u U, λ S. p)
-  lists-listed (then k v p m) = more k v (sound-shaped u U, λ S. p) (lists-listed m)
+  -- every key that is handed out is a value's
+  lists-listed : {key : Words} {l : List Entry} → Decodes key → Lists (nextOf (tableOf u)) key l → Listed u key l
+  lists-listed d (last p) = end (sound-shaped u U, d, λ S. p)
+  lists-listed {key = key} d (then k v p m) =
+      more k v (sound-shaped u U, d, λ S. p) (lists-listed (next-decodes (roomFor u) (tableOf u) key k v (sound-formed u U) p .0) m)
 
   agrees : {addresses : Addresses} {o : Original} → Agree addresses (tableOf u) o → Agrees addresses u o
   agrees g =
       record {
         sound = U;
-        gets = λ key a d p. get-done _ key a p U ∙ ap Value (g .gets key d);
+        gets = λ key a d p. get-done _ key a p U d ∙ ap Value (g .gets key d);
         walks = λ l m p q. g .walks l m (listed-lists p) q;
-        ends = (g .end .0, g .end .1, lists-listed (g .end .2), g .end .3);
+        ends = (g .end .0, g .end .1, lists-listed nil-decodes (g .end .2), g .end .3);
         lengths = λ a b c p. length-done _ a p U ∙ ap Length (g .lengths b c);
       }
 

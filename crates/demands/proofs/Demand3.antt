@@ -12,7 +12,7 @@ use Rattle.key.specs.Refusals.{noValue}
 use Rattle.model.specs.Entries.{Entry}
 use Rattle.model.specs.Table.{Table, getOf}
 use Rattle.model.specs.Calls.{setOf}
-use Rattle.model.proofs.Kept.{next-decodes}
+use Rattle.model.proofs.Kept.{nil-decodes, next-decodes}
 use Rattle.walk.specs.History.{History, Throughout as ThroughHistory, begin as begins, set as sets, step as steps}
 use Rattle.walk.proofs.Walk.{walk}
 use Rattle.store.specs.Store.{Store, lengthsOf, roomOf, roomFor}
@@ -41,8 +41,7 @@ found-decodes {s = s} S key k v n = next-decodes (roomFor s) (tableOf s) key k v
 
 follows : {s₀ s : Store} {allowed : List Words} {key : Words} {handed : List Entry} → Sound s₀ → (w : Walking s₀ s allowed key handed)
     → Follows s₀ s allowed key handed (Throughout w)
-unfolding decodes
-follows S begin = record { sound = S; lengths = refl; keyed = refl; history = begins; through = has-value S }
+follows S begin = record { sound = S; lengths = refl; keyed = nil-decodes; history = begins; through = has-value S }
 follows {s₀ = s₀} {allowed = allowed} {key = key} {handed = handed} S (still e w) =
     subst (λ (x : Store). Follows s₀ x allowed key handed (Throughout w)) (sym e) (follows S w)
 follows S (set {s = s} k v after r p m w) =

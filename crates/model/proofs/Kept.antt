@@ -26,7 +26,7 @@ use Rattle.model.proofs.Entries.{put-keys, length-put, keys-append, len
 use Rattle.model.proofs.Map.{by-set, rehashed-length, absent-still, set-sets}
 use Rattle.model.proofs.Size.{size-le, size-power}
 
-nil-decodes : Decodes nil
+pub nil-decodes : Decodes nil
 unfolding decodes
 nil-decodes = refl
 

@@ -1,7 +1,7 @@
 -- Demand 2: after the same calls from fresh, whatever the original's parts choose and in whatever order its map stands, our answers are its
 -- answers, and gets, the pairs of a walk, and the length where there is one border are its own. Assumes nothing.
 use mathlib.Core.Path.{_≡_, refl, sym, ap, ap₂, subst, _∙_}
-use mathlib.Core.Bool.{cond}
+use mathlib.Core.Bool.{true, cond}
 use mathlib.Core.List.{List, _∷_}
 use mathlib.Core.Logic.{inl, inr}
 use Prim.Native.Nat.{ℕ}
@@ -16,7 +16,7 @@ use Rattle.model.specs.Entries.{keep, live, Each}
 use Rattle.model.specs.Table.{Room, Table, fresh, pairs, lookup, getOf, nextOf}
 use Rattle.model.specs.Length.{lengthOf}
 use Rattle.model.specs.Manual.{OneBorder, Lists}
-use Rattle.model.specs.Calls.{Outcome, setOf, reserveOf}
+use Rattle.model.specs.Calls.{Outcome, areValues, setOf, reserveOf}
 use Rattle.model.specs.WellFormed.{Fair, WellFormed}
 use Rattle.model.proofs.Map.{set-key, set-no-key, Sets, set-sets, reserve-lookup}
 use Rattle.model.proofs.Kept.{fresh-kept, setOf-kept, reserve-kept}
@@ -87,25 +87,28 @@ module _ (addresses : Addresses) (room : Room) where
   -- ---- set
   same-set : (t : Table) (r : Original) → Together t r → (c : Choice) (key v : Words) → Decodes key → Decodes v → ((setOf room t key v) .refusal ≡ noRoom → ⊥)
       → (told (setOf room t key v) ≡ said (originalSet addresses c r key v)) × Together ((setOf room t key v) .table) ((originalSet addresses c r key v) .now)
-  same-set t r g c key v dk dv h = by-key key keyed (λ m e. rw (set-no-key room t key v m e, original-refuses addresses c r key v m e) (refl, g))
+  same-set t r g c key v dk dv h = by-key key keyed (λ m e. rw (set-no-key room t key v both m e, original-refuses addresses c r key v m e) (refl, g))
     where
       u : Table
       u = g .there .table
+
+      both : areValues key v ≡ true
+      both = rw dk dv
 
       keyed : (k : Words) → canonicalKey key ≡ Key k
           → (told (setOf room t key v) ≡ said (originalSet addresses c r key v)) × Together ((setOf room t key v) .table) ((originalSet addresses c r key v) .now)
       keyed k e = elim (set-sets room t k v (g .here)) [
         | inl m ↦
-            let ours : Sets (lookup t) k v (setOf room t key v) = subst (Sets (lookup t) k v) (sym (set-key room t key v k e)) m in
+            let ours : Sets (lookup t) k v (setOf room t key v) = subst (Sets (lookup t) k v) (sym (set-key room t key v both k e)) m in
             let its : OriginalSets addresses (lookup u) k v (originalSet addresses c r key v) =
             subst (λ (x : Original). OriginalSets addresses (lookup u) k v (originalSet addresses c x key v)) (sym (g .there .is)) (original-sets addresses c u key k v (g .there .right) e (canonical-own key k e)) in (
               ap₂ was (ours .ok ∙ sym (its .ok)) (ours .previously ∙ sym (its .previously ∙ g .there .holds k)),
               record {
-                here = setOf-kept room t key v (g .here) dk dv;
+                here = setOf-kept room t key v (g .here);
                 there = carried addresses (λ j. ap (λ (x : Words). cond (same k j) v x) (g .there .holds j) ∙ sym (ours .now j)) (its .now);
               },
             )
-        | inr p ↦ absurd (h (ap (λ (o : Outcome). o .refusal) (set-key room t key v k e ∙ p)))
+        | inr p ↦ absurd (h (ap (λ (o : Outcome). o .refusal) (set-key room t key v both k e ∙ p)))
       ]
 
   -- ---- reserve
