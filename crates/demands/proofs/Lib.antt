@@ -2,5 +2,8 @@
 pub mod Demand1
 pub mod Demand2
 pub mod Demand3
+pub mod Events
+pub mod Places
 pub mod Values
 pub mod Walkers
+pub mod Hosts
