@@ -67,12 +67,12 @@ module _ (s : Store) (input : List ℕ) where
   served-request {a} {y} q r p =
       record {
         takes = request-fits input q r .1;
-        kept = λ S. p .kept S (request-decodes input q r);
+        kept = p .kept;
         trace =
             λ S more d.
             let stays = decided-stays input more d in
             trace-request (roomFor s) (tableOf s) (input ++ more) q (stays .0 ∙ r)
-            ∙ ap₂ (λ (y : Reply) (l : List ℕ). replyBytes y ++ l) (sym (p .reply S))
+            ∙ ap₂ (λ (y : Reply) (l : List ℕ). replyBytes y ++ l) (sym (p .reply S (request-decodes input q r)))
             (ap₂ (traceOf (roomFor s)) (sym (p .table S))
             (ap (λ (n : ℕ). drop n (input ++ more)) (stays .1) ∙ drop-append-le (recordSize input) input more (request-fits input q r .1)));
       }

@@ -12,7 +12,7 @@ use Rattle.store.specs.Written.{tableOf}
 use Rattle.records.specs.declared.Request.{Request}
 use Rattle.records.specs.declared.Reading.the-variants.{End, Request as Asks, Fault}
 use Rattle.records.specs.Requests.{recordSize, reading}
-use Rattle.records.proofs.Readings.{request-fits}
+use Rattle.records.proofs.Readings.{request-fits, request-decodes}
 use Rattle.replies.specs.declared.Reply.{Reply}
 use Rattle.replies.specs.declared.Reply.the-variants.{Fault as Faults}
 use Rattle.replies.specs.Replies.{Appends, replyBytes}
@@ -54,7 +54,7 @@ module _ {s : Store} {input was : List ℕ} {at : ℕ} where
           short =
               λ S f.
               let long : length (replyBytes y) ≡ length (replyBytes (replyOf (roomFor s) (tableOf s) q)) =
-              ap (λ (x : Reply). length (replyBytes x)) (p .reply S) in
+              ap (λ (x : Reply). length (replyBytes x)) (p .reply S (request-decodes input q r)) in
               omega (arith, e, long, w .ends, reply-short (roomFor s) (tableOf s) input q r);
         },
       )
