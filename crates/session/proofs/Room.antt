@@ -5,11 +5,11 @@ use lib.Dec.{lit≤}
 use lib.ListN.{length}
 use Rattle.lent.specs.Lent.{lentWords}
 use Rattle.lent.proofs.Lent.{zeros-sized}
-use Rattle.model.specs.Table.{Room, Table, fresh}
+use Rattle.model.specs.Table.{fresh}
 use Rattle.model.proofs.Kept.{fresh-kept}
 use Rattle.store.specs.declared.Record.{Record}
 use Rattle.store.specs.declared.Made.the-variants.{Store as Stored, No}
-use Rattle.store.specs.Store.{Slices, Store, store, Lengths, lengthsOf, roomOf, roomFor}
+use Rattle.store.specs.Store.{Slices, store, Lengths, lengthsOf, roomOf, roomFor}
 use Rattle.store.specs.Shape.{RightLengths}
 use Rattle.store.specs.Fresh.{FreshMade}
 use Rattle.store.specs.Written.{written, Sound, tableOf}

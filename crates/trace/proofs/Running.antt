@@ -1,5 +1,5 @@
 -- Between two turns: where the loop of `take_turns` is, its start, a turn, and its three ends. Assumes nothing.
-use mathlib.Core.Path.{_≡_, refl, sym, ap, ap₂, subst, _∙_}
+use mathlib.Core.Path.{_≡_, refl, sym, ap, _∙_}
 use mathlib.Core.Bool.{Bool, true, false}
 use mathlib.Core.List.{List, [], _++_}
 use Prim.Native.Nat.{ℕ, suc, _+_, _-_, _^_, _<_, _≤_}
@@ -8,8 +8,7 @@ use lib.Dec.{eqb, lit<}
 use lib.ListN.{length, take, drop, length-drop}
 use lib.Seq.{length-take-le, take-add, drop-at}
 use borrow.Author.Tests.{ne-eqb}
-use Rattle.value.proofs.Cases.{clash}
-use Rattle.store.specs.Store.{Slices, Store}
+use Rattle.store.specs.Store.{Store}
 use Rattle.store.specs.Written.{Sound}
 use Rattle.records.specs.Requests.{longestRecord, isWhole}
 use Rattle.session.specs.Served.{Further, Served, Turns, begin, turn}

@@ -1,7 +1,7 @@
 -- A turn: there is room to read, what was read lies in the slice after what is held, what is handed on is what was made, and what is left is
 -- less than a record. Assumes nothing.
-use mathlib.Core.Path.{_≡_, sym, ap, subst, _∙_}
-use mathlib.Core.Bool.{Bool, true, false}
+use mathlib.Core.Path.{_≡_, sym, ap, _∙_}
+use mathlib.Core.Bool.{Bool}
 use mathlib.Core.List.{List}
 use Prim.Native.Nat.{ℕ, _+_, _*_, _-_, _^_, _<_, _≤_}
 use native.Mathlib.Nat.{sub-zero}
@@ -17,7 +17,7 @@ use Rattle.records.specs.Requests.{longestRecord, isWhole}
 use Rattle.records.proofs.Numbers.{take-bytes}
 use Rattle.replies.specs.Replies.{longest}
 use Rattle.session.specs.declared.Progress.{Progress}
-use Rattle.session.specs.Served.{Further, Served, ServedInto, Waits}
+use Rattle.session.specs.Served.{Further, ServedInto, Waits}
 use Rattle.session.proofs.Waiting.{leaves-short}
 use Rattle.session.proofs.Turns.{leftOf, written-fits}
 use Rattle.trace.specs.Rooms.{inputRoom, outputRoom}

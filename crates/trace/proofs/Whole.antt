@@ -1,6 +1,6 @@
 -- What a run has written, by why it ended: the trace's output on the fresh table of its room, or a beginning of it. Assumes nothing.
 use mathlib.Core.Path.{_≡_, sym, ap, ap₂, _∙_}
-use mathlib.Core.Bool.{Bool, true, cond}
+use mathlib.Core.Bool.{Bool, cond}
 use mathlib.Core.List.{List, [], _++_, append-nil}
 use Prim.Native.Nat.{ℕ}
 use lib.Dec.{eqb}
@@ -14,7 +14,7 @@ use Rattle.session.specs.Room.{traceRoom, traceStore}
 use Rattle.session.proofs.Room.{trace-sound, trace-table, trace-room}
 use Rattle.session.proofs.Whole.{turns-stay, turns-trace, so-far-served}
 use Rattle.trace.specs.declared.Ended.{Ended}
-use Rattle.trace.specs.declared.Ended.the-variants.{Stopped, Unwritten, Spent}
+use Rattle.trace.specs.declared.Ended.the-variants.{Stopped}
 use Rattle.trace.specs.Run.{Last, Run}
 
 -- the same on the table that a trace begins with

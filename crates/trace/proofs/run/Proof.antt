@@ -1,4 +1,3 @@
--- `trace::run` meets its contract. Assumes nothing.
 -- `trace::run` meets its contract: the store that it begins with is the trace's. Assumes nothing.
 use mathlib.Core.Path.{_≡_, sym, subst, _∙_}
 use Rattle.store.specs.declared.Record.{Record}

@@ -1,4 +1,3 @@
--- `trace::take_turns` meets its contract. Assumes nothing.
 -- `trace::take_turns` meets its contract. The loop's invariant is `Running`; it counts turns down. Assumes nothing.
 use mathlib.Core.Path.{sym, _∙_}
 use borrow.Author.Count.{falls-down}
@@ -14,6 +13,13 @@ Inv-loop array₀ entries₀ index₀ input₀ output₀ now₀ held₀ turns₀
 abbrev μ-loop : tie.MeasureT-loop
 μ-loop array₀ entries₀ index₀ input₀ output₀ now₀ held₀ turns₀ array entries index input output now held turns =
     turns
+
+-- from the call of a turn, the loop's test and its head
+abbrev inside : tie.After-turn Inv-loop μ-loop → tie.In-loop Inv-loop μ-loop
+inside c = c .before .before .before .before .before .before
+
+abbrev head : tie.After-turn Inv-loop μ-loop → tie.At-loop Inv-loop μ-loop
+head c = inside c .before
 
 input-room-requires : tie.Need-input-room-requires Inv-loop μ-loop
 input-room-requires c κs = tt
@@ -34,37 +40,59 @@ turn-requires : tie.Need-turn-requires Inv-loop μ-loop
 turn-requires c κs = let inv = c .before .before .before .before .before .before .loop .inv in (inv .sound, (inv .short, inv .reads, inv .writes))
 
 same-length : tie.Need-same-length Inv-loop μ-loop
-same-length c = c .before .before .before .before .before .before .before .before .before .before .turn .kept .0 ∙ c .before .before .before .before .before .before .before .before .before .before .before .before .before .before .before .before .before .loop .inv .long .array
+same-length c =
+    let turned = c .before .before .before .before .before .before .before .before .before .before in
+    turned .turn .kept .0 ∙ head turned .loop .inv .long .array
 
 same-length-2 : tie.Need-same-length-2 Inv-loop μ-loop
-same-length-2 c = c .before .before .before .before .before .before .before .before .before .before .turn .kept .1 .0 ∙ c .before .before .before .before .before .before .before .before .before .before .before .before .before .before .before .before .before .loop .inv .long .entries
+same-length-2 c =
+    let turned = c .before .before .before .before .before .before .before .before .before .before in
+    turned .turn .kept .1 .0 ∙ head turned .loop .inv .long .entries
 
 same-length-3 : tie.Need-same-length-3 Inv-loop μ-loop
-same-length-3 c = c .before .before .before .before .before .before .before .before .before .before .turn .kept .1 .1 .0 ∙ c .before .before .before .before .before .before .before .before .before .before .before .before .before .before .before .before .before .loop .inv .long .index
+same-length-3 c =
+    let turned = c .before .before .before .before .before .before .before .before .before .before in
+    turned .turn .kept .1 .1 .0 ∙ head turned .loop .inv .long .index
 
 returns : tie.Need-returns Inv-loop μ-loop
-returns c = running-unwritten (c .before .before .before .before .before .before .before .before .before .before .before .before .before .before .before .before .before .loop .inv) (c .before .before .before .before .before .before .before .before .before .before .turn .ensures) (c .before .before .before .before .before .before .before .before .before .before .before .before .before .before .before .before .loop-test .taken)
+returns c =
+    let turned = c .before .before .before .before .before .before .before .before .before .before in
+    running-unwritten (head turned .loop .inv) (turned .turn .ensures) (inside turned .loop-test .taken)
 
 same-length-4 : tie.Need-same-length-4 Inv-loop μ-loop
-same-length-4 c = c .before .before .before .before .before .before .before .before .before .before .before .turn .kept .0 ∙ c .before .before .before .before .before .before .before .before .before .before .before .before .before .before .before .before .before .before .loop .inv .long .array
+same-length-4 c =
+    let turned = c .before .before .before .before .before .before .before .before .before .before .before in
+    turned .turn .kept .0 ∙ head turned .loop .inv .long .array
 
 same-length-5 : tie.Need-same-length-5 Inv-loop μ-loop
-same-length-5 c = c .before .before .before .before .before .before .before .before .before .before .before .turn .kept .1 .0 ∙ c .before .before .before .before .before .before .before .before .before .before .before .before .before .before .before .before .before .before .loop .inv .long .entries
+same-length-5 c =
+    let turned = c .before .before .before .before .before .before .before .before .before .before .before in
+    turned .turn .kept .1 .0 ∙ head turned .loop .inv .long .entries
 
 same-length-6 : tie.Need-same-length-6 Inv-loop μ-loop
-same-length-6 c = c .before .before .before .before .before .before .before .before .before .before .before .turn .kept .1 .1 .0 ∙ c .before .before .before .before .before .before .before .before .before .before .before .before .before .before .before .before .before .before .loop .inv .long .index
+same-length-6 c =
+    let turned = c .before .before .before .before .before .before .before .before .before .before .before in
+    turned .turn .kept .1 .1 .0 ∙ head turned .loop .inv .long .index
 
 returns-2 : tie.Need-returns-2 Inv-loop μ-loop
-returns-2 c = running-stops (c .before .before .before .before .before .before .before .before .before .before .before .before .before .before .before .before .before .before .loop .inv) (c .before .before .before .before .before .before .before .before .before .before .before .turn .ensures) (c .if2 .taken) (c .before .before .before .before .before .before .before .before .before .before .before .before .before .before .before .before .before .loop-test .taken)
+returns-2 c =
+    let turned = c .before .before .before .before .before .before .before .before .before .before .before in
+    running-stops (head turned .loop .inv) (turned .turn .ensures) (c .if2 .taken) (inside turned .loop-test .taken)
 
 slice-aggregate-keep : tie.Need-slice-aggregate-keep Inv-loop μ-loop
-slice-aggregate-keep c = c .before .before .before .before .before .before .before .before .before .before .before .before .before .before .before .before .before .before .before .before .loop .inv .reads ∙ sym (c .before .before .before .before .before .before .before .before .before .before .before .before .before .turn .kept .1 .1 .1 .1 .0)
+slice-aggregate-keep c =
+    let turned = c .before .before .before .before .before .before .before .before .before .before .before .before .before in
+    head turned .loop .inv .reads ∙ sym (turned .turn .kept .1 .1 .1 .1 .0)
 
 add-keep : tie.Need-add-keep Inv-loop μ-loop
-add-keep c = record { fits = came-fits (c .before .before .before .before .before .before .before .before .before .before .before .before .before .before .before .before .before .before .before .before .before .loop .inv) (c .before .before .before .before .before .before .before .before .before .before .before .before .before .before .turn .ensures) (c .before .before .before .before .before .before .before .before .before .before .before .before .before .before .turn .kept .1 .1 .1 .1 .0) }
+add-keep c =
+    let turned = c .before .before .before .before .before .before .before .before .before .before .before .before .before .before in
+    record { fits = came-fits (head turned .loop .inv) (turned .turn .ensures) (turned .turn .kept .1 .1 .1 .1 .0) }
 
 keep-requires : tie.Need-keep-requires Inv-loop μ-loop
-keep-requires c κs = keeps (c .before .before .before .before .before .before .before .before .before .before .before .before .before .before .before .before .before .before .before .before .before .loop .inv) (c .before .before .before .before .before .before .before .before .before .before .before .before .before .before .turn .ensures)
+keep-requires c κs =
+    let turned = c .before .before .before .before .before .before .before .before .before .before .before .before .before .before in
+    keeps (head turned .loop .inv) (turned .turn .ensures)
 
 sub-turns : tie.Need-sub-turns Inv-loop μ-loop
 sub-turns c = c .before .before .before .before .before .before .before .before .before .before .before .before .before .before .before .before .before .before .before .before .before .before .loop-test .taken
@@ -73,8 +101,11 @@ loop-less : tie.Need-loop-less Inv-loop μ-loop
 loop-less c = falls-down _ (c .before .before .before .before .before .before .before .before .before .before .before .before .before .before .before .before .before .before .before .before .before .before .loop-test .taken)
 
 loop-again : tie.Need-loop-again Inv-loop μ-loop
-loop-again c = let kept = c .before .before .before .before .before .before .before .before .before .before .before .before .before .before .before .before .turn .kept in
-    running-turn (c .before .before .before .before .before .before .before .before .before .before .before .before .before .before .before .before .before .before .before .before .before .before .before .loop .inv) (c .before .before .before .before .before .before .before .before .before .before .before .before .before .before .before .before .turn .ensures) (c .before .before .before .before .before .if2 .left) (c .before .before .before .before .before .before .before .before .before .before .before .before .before .before .before .before .before .before .before .before .before .before .loop-test .taken)
+loop-again c =
+    let turned = c .before .before .before .before .before .before .before .before .before .before .before .before .before .before .before .before in
+    let kept = turned .turn .kept in
+    let left = turned .turn .last in
+    running-turn {after = storeOf (left .0) (left .1 .0) (left .1 .1 .0) (turned .turn .result .sizes)} (head turned .loop .inv) (turned .turn .ensures) (c .before .before .before .before .before .if2 .left) (inside turned .loop-test .taken)
     (record { array = kept .0; entries = kept .1 .0; index = kept .1 .1 .0 }) _ _
     (c .before .keep .kept .0 ∙ kept .1 .1 .1 .1 .0) (kept .1 .1 .1 .1 .1 .1 .0) (c .before .keep .ensures .0) (c .before .keep .ensures .1)
 
