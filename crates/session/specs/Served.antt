@@ -45,7 +45,7 @@ Waits before input last output r =
 
 -- ---- one piece after the other
 -- so many turns on s, none of which ended the trace: all that was read and all that was written in them, and then the store and the bytes that
--- are held. Each turn reads a piece, and leaves only what waits for more; so the pieces decide all the rest
+-- are held. Each turn reads a piece, and leaves only what waits for more
 pub data Turns (s : Store) : ℕ → List ℕ → List ℕ → Store → List ℕ → Type 0 where
   begin : Turns s 0 [] [] s []
   turn : {n taken : ℕ} {read written held out : List ℕ} {m after : Store} → Turns s n read written m held → (piece : List ℕ) → 0 < length piece

@@ -1,7 +1,7 @@
 -- `trace::take_turns` meets its contract. The loop's invariant is `Running`; it counts turns down. Assumes nothing.
 use mathlib.Core.Path.{sym, _∙_}
 use borrow.Author.Count.{falls-down}
-use Rattle.store.specs.Store.{storeOf}
+use Rattle.store.specs.Store.{Store, storeOf}
 use Rattle.trace.proofs.Running.{Running, running-start, keeps, came-fits, running-turn, running-stops, running-unwritten, running-spent}
 use Rattle.trace.proofs.take_turns.Statement.{statement}
 use Rattle.trace.proofs.take_turns.Tie as tie
@@ -20,6 +20,10 @@ inside c = c .before .before .before .before .before .before
 
 abbrev head : tie.After-turn Inv-loop μ-loop → tie.At-loop Inv-loop μ-loop
 head c = inside c .before
+
+-- and the store that it left
+abbrev left : tie.After-turn Inv-loop μ-loop → Store
+left c = storeOf (c .turn .last .0) (c .turn .last .1 .0) (c .turn .last .1 .1 .0) (c .turn .result .sizes)
 
 input-room-requires : tie.Need-input-room-requires Inv-loop μ-loop
 input-room-requires c κs = tt
@@ -57,7 +61,7 @@ same-length-3 c =
 returns : tie.Need-returns Inv-loop μ-loop
 returns c =
     let turned = c .before .before .before .before .before .before .before .before .before .before in
-    running-unwritten (head turned .loop .inv) (turned .turn .ensures) (inside turned .loop-test .taken)
+    running-unwritten {after = left turned} (head turned .loop .inv) (turned .turn .ensures) (inside turned .loop-test .taken)
 
 same-length-4 : tie.Need-same-length-4 Inv-loop μ-loop
 same-length-4 c =
@@ -77,7 +81,7 @@ same-length-6 c =
 returns-2 : tie.Need-returns-2 Inv-loop μ-loop
 returns-2 c =
     let turned = c .before .before .before .before .before .before .before .before .before .before .before in
-    running-stops (head turned .loop .inv) (turned .turn .ensures) (c .if2 .taken) (inside turned .loop-test .taken)
+    running-stops {after = left turned} (head turned .loop .inv) (turned .turn .ensures) (c .if2 .taken) (inside turned .loop-test .taken)
 
 slice-aggregate-keep : tie.Need-slice-aggregate-keep Inv-loop μ-loop
 slice-aggregate-keep c =
@@ -87,12 +91,12 @@ slice-aggregate-keep c =
 add-keep : tie.Need-add-keep Inv-loop μ-loop
 add-keep c =
     let turned = c .before .before .before .before .before .before .before .before .before .before .before .before .before .before in
-    record { fits = came-fits (head turned .loop .inv) (turned .turn .ensures) (turned .turn .kept .1 .1 .1 .1 .0) }
+    record { fits = came-fits {after = left turned} (head turned .loop .inv) (turned .turn .ensures) (turned .turn .kept .1 .1 .1 .1 .0) }
 
 keep-requires : tie.Need-keep-requires Inv-loop μ-loop
 keep-requires c κs =
     let turned = c .before .before .before .before .before .before .before .before .before .before .before .before .before .before in
-    keeps (head turned .loop .inv) (turned .turn .ensures)
+    keeps {after = left turned} (head turned .loop .inv) (turned .turn .ensures)
 
 sub-turns : tie.Need-sub-turns Inv-loop μ-loop
 sub-turns c = c .before .before .before .before .before .before .before .before .before .before .before .before .before .before .before .before .before .before .before .before .before .before .loop-test .taken
@@ -104,8 +108,7 @@ loop-again : tie.Need-loop-again Inv-loop μ-loop
 loop-again c =
     let turned = c .before .before .before .before .before .before .before .before .before .before .before .before .before .before .before .before in
     let kept = turned .turn .kept in
-    let left = turned .turn .last in
-    running-turn {after = storeOf (left .0) (left .1 .0) (left .1 .1 .0) (turned .turn .result .sizes)} (head turned .loop .inv) (turned .turn .ensures) (c .before .before .before .before .before .if2 .left) (inside turned .loop-test .taken)
+    running-turn {after = left turned} (head turned .loop .inv) (turned .turn .ensures) (c .before .before .before .before .before .if2 .left) (inside turned .loop-test .taken)
     (record { array = kept .0; entries = kept .1 .0; index = kept .1 .1 .0 }) _ _
     (c .before .keep .kept .0 ∙ kept .1 .1 .1 .1 .0) (kept .1 .1 .1 .1 .1 .1 .0) (c .before .keep .ensures .0) (c .before .keep .ensures .1)
 
