@@ -32,7 +32,9 @@ trace-right =
 
 pub trace-sound : Sound traceStore
 unfolding written lentWords
-trace-sound = written-sound traceLengths fresh trace-right (fresh-kept traceRoom (right-fair traceLengths trace-right)) (zeros-sized (traceLengths .array - 0)) (zeros-sized (traceLengths .entries - 0))
+trace-sound =
+    written-sound traceLengths fresh trace-right (fresh-kept traceRoom (right-fair traceLengths trace-right))
+    (zeros-sized (traceLengths .array - 0)) (zeros-sized (traceLengths .entries - 0))
 
 pub trace-table : tableOf traceStore ≡ fresh
 trace-table = table-written traceLengths fresh

@@ -14,10 +14,11 @@ use Rattle.records.specs.Requests.{longestRecord, isWhole}
 use Rattle.session.specs.Served.{Further, Served, Turns, begin, turn}
 use Rattle.session.proofs.Turns.{Long}
 use Rattle.trace.specs.declared.Turned.{Turned}
+use Rattle.trace.specs.declared.Ended.{Ended}
 use Rattle.trace.specs.declared.Ended.the-variants.{Stopped, Unwritten, Spent}
 use Rattle.trace.specs.Rooms.{inputRoom, outputRoom}
 use Rattle.trace.specs.Turn.{Answered}
-use Rattle.trace.specs.Run.{mostTurns, Last, Run}
+use Rattle.trace.specs.Run.{mostTurns, Last, EndedBy, Run}
 
 -- ---- a turn as a link of the chain
 module _ {s after : Store} {was : List ℕ} {held : ℕ} {input output : List ℕ} {r : Turned} (p : Answered s after was held input output r) where
@@ -82,10 +83,24 @@ running-start s input output S i o =
       left = refl;
     }
 
+ended : {s m : Store} {input output : List ℕ} {held turns : ℕ} (u : Running s m input output held turns) (e : Ended) → EndedBy (u .count) m (take held input) e → Run s e
+ended {m = m} {input = input} {held = held} u e ends =
+    record {
+      count = u .count;
+      read = u .read;
+      written = u .written;
+      now = m;
+      held = take held input;
+      turns = u .chain;
+      ends = ends;
+    }
+
 module _ {s m after : Store} {was : List ℕ} {held turns : ℕ} {input output₀ output : List ℕ} {r : Turned} (u : Running s m was output₀ held turns)
     (p : Answered m after was held input output r) where
   pub keeps : (r .taken ≤ held + r .got) × (held + r .got ≤ length input)
-  keeps = let long : length (take (held + r .got) input) ≡ held + r .got = length-take-le (held + r .got) input (p .came) in (omega (arith, p .served .takes, long), p .came)
+  keeps =
+      let long : length (take (held + r .got) input) ≡ held + r .got = length-take-le (held + r .got) input (p .came) in
+      (omega (arith, p .served .takes, long), p .came)
 
   pub came-fits : length input ≡ length was → held + r .got < 2 ^ 64
   came-fits i = omega (arith, p .came, i, u .reads)
@@ -119,37 +134,10 @@ module _ {s m after : Store} {was : List ℕ} {held turns : ℕ} {input output�
       }
 
   pub running-stops : r .stopped ≡ true → 0 < turns → Run s Stopped
-  running-stops e g =
-      record {
-        count = u .count;
-        read = u .read;
-        written = u .written;
-        now = m;
-        held = take held was;
-        turns = u .chain;
-        ends = (omega (arith, u .left), last-turn p true e);
-      }
+  running-stops e g = ended u Stopped (omega (arith, u .left), last-turn p true e)
 
   pub running-unwritten : 0 < turns → Run s Unwritten
-  running-unwritten g =
-      record {
-        count = u .count;
-        read = u .read;
-        written = u .written;
-        now = m;
-        held = take held was;
-        turns = u .chain;
-        ends = (omega (arith, u .left), r .stopped, last-turn p (r .stopped) refl);
-      }
+  running-unwritten g = ended u Unwritten (omega (arith, u .left), r .stopped, last-turn p (r .stopped) refl)
 
 pub running-spent : {s m : Store} {input output : List ℕ} {held turns : ℕ} → Running s m input output held turns → turns ≤ 0 → Run s Spent
-running-spent {m = m} {input = input} {held = held} u g =
-    record {
-      count = u .count;
-      read = u .read;
-      written = u .written;
-      now = m;
-      held = take held input;
-      turns = u .chain;
-      ends = omega (arith, u .left);
-    }
+running-spent u g = ended u Spent (omega (arith, u .left))

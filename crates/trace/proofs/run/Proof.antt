@@ -14,7 +14,9 @@ use Rattle.trace.proofs.run.Tie as tie
 
 -- the slices that were made, and as the call left them
 abbrev room : tie.After-fresh → Slices
-room c = slices (c .before .before .before .before .before .before .array-room .result) (c .before .before .before .before .before .entry-room .result) (c .before .before .before .before .index-room .result)
+room c =
+    let made = c .before .before .before .before in
+    slices (made .before .before .array-room .result) (made .before .entry-room .result) (made .index-room .result)
 
 abbrev left : tie.After-fresh → Slices
 left c = slices (c .fresh .last .0) (c .fresh .last .1 .0) (c .fresh .last .1 .1 .0)
@@ -55,25 +57,38 @@ enum-known-sizes : tie.Need-enum-known-sizes
 enum-known-sizes c = search needs
 
 slice-aggregate-take-turns : tie.Need-slice-aggregate-take-turns
-slice-aggregate-take-turns c = c .before .before .before .before .before .before .before .before .before .before .before .before .before .array-room .ensures ∙ sym (c .before .before .before .before .before .before .before .fresh .kept .0)
+slice-aggregate-take-turns c =
+    let made = c .before .before .before .before .before .before .before in
+    long made .array ∙ sym (made .fresh .kept .0)
 
 slice-aggregate-take-turns-2 : tie.Need-slice-aggregate-take-turns-2
-slice-aggregate-take-turns-2 c = c .before .before .before .before .before .before .before .before .before .before .before .before .before .entry-room .ensures ∙ sym (c .before .before .before .before .before .before .before .before .fresh .kept .1 .0)
+slice-aggregate-take-turns-2 c =
+    let made = c .before .before .before .before .before .before .before .before in
+    long made .entries ∙ sym (made .fresh .kept .1 .0)
 
 slice-aggregate-take-turns-3 : tie.Need-slice-aggregate-take-turns-3
-slice-aggregate-take-turns-3 c = c .before .before .before .before .before .before .before .before .before .before .before .before .before .index-room .ensures ∙ sym (c .before .before .before .before .before .before .before .before .before .fresh .kept .1 .1 .0)
+slice-aggregate-take-turns-3 c =
+    let made = c .before .before .before .before .before .before .before .before .before in
+    long made .index ∙ sym (made .fresh .kept .1 .1 .0)
 
 take-turns-requires : tie.Need-take-turns-requires
-take-turns-requires c κs = subst Sound (sym (begun (c .before .before .before .before .before .before .before .before .before) _ (c .before .before .before .before .sizes .given .1))) trace-sound
+take-turns-requires c κs =
+    let known = c .before .before .before .before in
+    subst Sound (sym (begun (known .before .before .before .before .before) _ (known .sizes .given .1))) trace-sound
 
 enum-told : tie.Need-enum-told
 enum-told c = search needs
 
 returns : tie.Need-returns
-returns c = subst (λ (s : Store). Run s (c .before .before .before .take-turns .result)) (begun (c .before .before .before .before .before .before .before .before .before .before .before .before .before) _ (c .before .before .before .before .before .before .before .before .sizes .given .1)) (c .before .before .before .take-turns .ensures)
+returns c =
+    let turned = c .before .before .before in
+    let known = turned .before .before .before .before .before in
+    subst (λ (s : Store). Run s (turned .take-turns .result)) (begun (known .before .before .before .before .before) _ (known .sizes .given .1)) (turned .take-turns .ensures)
 
 returns-2 : tie.Need-returns-2
-returns-2 c = let made = c .before .before .before .before .before in absurd (fresh-comes (room made) (left made) (long made) _ (subst (FreshMade (room made) (left made)) (c .enum-told .given .1) (made .fresh .ensures)))
+returns-2 c =
+    let made = c .before .before .before .before .before in
+    absurd (fresh-comes (room made) (left made) (long made) _ (subst (FreshMade (room made) (left made)) (c .enum-told .given .1) (made .fresh .ensures)))
 
 pub run-spec : {M : Type 1} → statement M
 run-spec =
