@@ -1,6 +1,5 @@
 // Replays stored traces. The arguments are pairs: how to compare, `exactly` or `sets`, and a file of traces with their answers, which
 // tests/replay makes. Of each file a line is written: how many traces it has, and how many are answered otherwise.
-use index::Word;
 use libc::STDOUT_FILENO;
 use store::Made;
 ghost use mathlib.Core.Path.{_≡_};
@@ -122,9 +121,9 @@ fn same_as_sets(ours: &[u8], stored: &[u8]) -> bool {
 
 // On a fresh store, as the trace program would.
 fn is_answered(input: &[u8], stored: &[u8], sets: bool) -> bool {
-    let mut array = [0u64; session::ARRAY];
-    let mut entries = [0u64; session::ENTRIES];
-    let mut index: [Word; session::INDEX] = [0; session::INDEX];
+    let mut array = session::array_room();
+    let mut entries = session::entry_room();
+    let mut index = session::index_room();
     let mut output = output_room();
     match store::fresh(&mut array, &mut entries, &mut index) {
         Made::Store(sizes) => {

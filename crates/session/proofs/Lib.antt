@@ -5,3 +5,5 @@ pub mod Waiting
 pub mod Ways
 pub mod Turns
 pub mod Whole
+pub mod Example
+pub mod Room

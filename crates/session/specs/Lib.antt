@@ -1,2 +1,4 @@
 pub mod Trace
 pub mod Served
+pub mod Room
+pub mod Example

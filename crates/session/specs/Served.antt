@@ -3,7 +3,7 @@ use mathlib.Core.Path.{_≡_}
 use mathlib.Core.Logic.{_⊎_}
 use mathlib.Core.Bool.{Bool, true, false, cond}
 use mathlib.Core.List.{List, [], _++_}
-use Prim.Native.Nat.{ℕ, _+_, _*_, _<_, _≤_}
+use Prim.Native.Nat.{ℕ, suc, _+_, _*_, _<_, _≤_}
 use lib.ListN.{length, drop}
 use Rattle.store.specs.Store.{Slices, Store, store, roomFor}
 use Rattle.store.specs.Written.{Sound, tableOf}
@@ -43,9 +43,11 @@ abbrev pub Waits : Store → List ℕ → Bool → List ℕ → Progress → Typ
 Waits before input last output r =
     Sound before → 3 * length input + longest ≤ length output → r .stopped ≡ false → (last ≡ false) × (isWhole (drop (r .taken) input) ≡ false)
 
--- ---- a whole run
--- `Fed s held rest out`: on s, with `held` read and not yet taken and `rest` still to be read, this is written, piece by piece
-pub data Fed : Store → List ℕ → List ℕ → List ℕ → Type 0 where
-  stops : {s after : Store} {held rest out : List ℕ} {taken : ℕ} (last : Bool) → Further last rest → Served s after (Further last) held out taken true → Fed s held rest out
-  goes : {s after : Store} {held rest out outs : List ℕ} {taken : ℕ} (piece : List ℕ) → Served s after (Further false) held out taken false
-      → Fed after (drop taken held ++ piece) rest outs → Fed s held (piece ++ rest) (out ++ outs)
+-- ---- one piece after the other
+-- so many turns on s, none of which ended the trace: all that was read and all that was written in them, and then the store and the bytes that
+-- are held. Each turn reads a piece, and leaves only what waits for more
+pub data Turns (s : Store) : ℕ → List ℕ → List ℕ → Store → List ℕ → Type 0 where
+  begin : Turns s 0 [] [] s []
+  turn : {n taken : ℕ} {read written held out : List ℕ} {m after : Store} → Turns s n read written m held → (piece : List ℕ) → 0 < length piece
+      → Served m after (Further false) (held ++ piece) out taken false → isWhole (drop taken (held ++ piece)) ≡ false
+      → Turns s (suc n) (read ++ piece) (written ++ out) after (drop taken (held ++ piece))

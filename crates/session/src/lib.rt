@@ -9,14 +9,15 @@ ghost use Prim.Native.Nat.{_+_, _-_, _≤_};
 ghost use lib.ListN.{length, take, drop};
 ghost use Rattle.store.specs.Store.{slices, storeOf};
 ghost use Rattle.replies.specs.Replies.{longest};
+ghost use Rattle.session.specs.Room.{traceLengths};
 ghost use Rattle.session.specs.Served.{Decided, Further, ServedInto, Paced, Waits};
 
-// The words of a trace's room, a = 1,024 values and e = 512 entries, and the least index for them.
-pub const ARRAY: usize = 2048;
+// The words of a trace's room, a = 1,024 values and e = 512 entries, and the least index for them: specs/Room.antt says why so many.
+const ARRAY: usize = 2048;
 
-pub const ENTRIES: usize = 2048;
+const ENTRIES: usize = 2048;
 
-pub const INDEX: usize = 1024;
+const INDEX: usize = 1024;
 
 // What was taken of the input and made of output, and whether the trace has ended.
 pub struct Progress {
@@ -24,6 +25,25 @@ pub struct Progress {
     pub taken: usize,
     pub made: usize,
     pub stopped: bool,
+}
+
+// The slices of a trace's store. Each contract gives only the length, which is what makes the room.
+pub fn array_room() -> [u64; ARRAY]
+    ensures { λ r. ⌜ traceLengths .array ≡ length r ⌝ }
+{
+    [0; ARRAY]
+}
+
+pub fn entry_room() -> [u64; ENTRIES]
+    ensures { λ r. ⌜ traceLengths .entries ≡ length r ⌝ }
+{
+    [0; ENTRIES]
+}
+
+pub fn index_room() -> [Word; INDEX]
+    ensures { λ r. ⌜ traceLengths .index ≡ length r ⌝ }
+{
+    [0; INDEX]
 }
 
 // One record, where the input decides it or has ended.

@@ -1,1 +1,3 @@
 pub mod Turning
+pub mod Running
+pub mod Whole

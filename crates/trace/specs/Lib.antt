@@ -1,1 +1,3 @@
 pub mod Rooms
+pub mod Turn
+pub mod Run

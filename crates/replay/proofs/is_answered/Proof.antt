@@ -5,6 +5,15 @@ use Rattle.session.proofs.Turns.{written-fits}
 use Rattle.replay.proofs.is_answered.Statement.{statement}
 use Rattle.replay.proofs.is_answered.Tie as tie
 
+array-room-requires : tie.Need-array-room-requires
+array-room-requires c κs = tt
+
+entry-room-requires : tie.Need-entry-room-requires
+entry-room-requires c κs = tt
+
+index-room-requires : tie.Need-index-room-requires
+index-room-requires c κs = tt
+
 output-room-requires : tie.Need-output-room-requires
 output-room-requires c κs = tt
 
@@ -78,6 +87,9 @@ pub is-answered-spec : {M : Type 1} → statement M
 is-answered-spec =
     tie.close
     (tie.spec
+    array-room-requires
+    entry-room-requires
+    index-room-requires
     output-room-requires
     slice-aggregate-fresh
     slice-aggregate-fresh-2

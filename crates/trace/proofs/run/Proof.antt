@@ -1,109 +1,111 @@
--- `trace::run` meets its contract. The loop's invariant is `Running`; it counts turns down. Assumes nothing.
-use mathlib.Core.Path.{refl, sym, _∙_}
-use lib.Dec.{lit<}
-use borrow.Author.Count.{falls-down}
-use Rattle.store.specs.Store.{slices, storeOf}
-use Rattle.trace.proofs.Turning.{Running}
+-- `trace::run` meets its contract: the store that it begins with is the trace's. Assumes nothing.
+use mathlib.Core.Path.{_≡_, sym, subst, _∙_}
+use Rattle.store.specs.declared.Record.{Record}
+use Rattle.store.specs.declared.Made.the-variants.{Store as Stored}
+use Rattle.store.specs.Store.{Slices, slices, Store, store}
+use Rattle.store.specs.Fresh.{FreshMade}
+use Rattle.store.specs.Written.{Sound}
+use Rattle.session.specs.Room.{traceStore}
+use Rattle.session.proofs.Room.{AsLong, trace-sound, fresh-begins, fresh-comes}
+use Rattle.trace.specs.Run.{Run}
+use borrow.Author.Needs.{needs}
 use Rattle.trace.proofs.run.Statement.{statement}
 use Rattle.trace.proofs.run.Tie as tie
 
-abbrev Inv-loop : tie.InvT-loop
-Inv-loop array₀ entries₀ index₀ input₀ output₀ now₀ held₀ turns₀ array entries index input output now held turns =
-    Running (slices array₀ entries₀ index₀) (storeOf array entries index now) input output held
+-- the slices that were made, and as the call left them
+abbrev room : tie.After-fresh → Slices
+room c =
+    let made = c .before .before .before .before in
+    slices (made .before .before .array-room .result) (made .before .entry-room .result) (made .index-room .result)
 
-abbrev μ-loop : tie.MeasureT-loop
-μ-loop array₀ entries₀ index₀ input₀ output₀ now₀ held₀ turns₀ array entries index input output now held turns =
-    turns
+abbrev left : tie.After-fresh → Slices
+left c = slices (c .fresh .last .0) (c .fresh .last .1 .0) (c .fresh .last .1 .1 .0)
 
-input-room-requires : tie.Need-input-room-requires Inv-loop μ-loop
-input-room-requires c κs = tt
-
-output-room-requires : tie.Need-output-room-requires Inv-loop μ-loop
-output-room-requires c κs = tt
-
-loop-holds : tie.Need-loop-holds Inv-loop μ-loop
-loop-holds c =
+long : (c : tie.After-fresh) → AsLong (room c)
+long c =
     record {
-      long = record { array = refl; entries = refl; index = refl };
-      reads = c .before .input-room .ensures;
-      writes = c .output-room .ensures;
-      sound = c .before .before .before .before .before .pre;
-      short = lit< tt;
+      array = c .before .before .before .before .before .before .array-room .ensures;
+      entries = c .before .before .before .before .before .entry-room .ensures;
+      index = c .before .before .before .before .index-room .ensures;
     }
 
-slice-aggregate-turn : tie.Need-slice-aggregate-turn Inv-loop μ-loop
-slice-aggregate-turn c = c .before .before .before .before .before .loop .inv .reads
+begun : (c : tie.After-fresh) (r : Record) → c .fresh .result ≡ Stored r → store (left c) r ≡ traceStore
+begun c r e = fresh-begins (room c) (left c) (long c) r (subst (FreshMade (room c) (left c)) e (c .fresh .ensures))
 
-slice-aggregate-turn-2 : tie.Need-slice-aggregate-turn-2 Inv-loop μ-loop
-slice-aggregate-turn-2 c = c .before .before .before .before .before .before .loop .inv .writes
+array-room-requires : tie.Need-array-room-requires
+array-room-requires c κs = tt
 
-turn-requires : tie.Need-turn-requires Inv-loop μ-loop
-turn-requires c κs = let inv = c .before .before .before .before .before .before .loop .inv in (inv .sound, (inv .short, inv .reads, inv .writes))
+entry-room-requires : tie.Need-entry-room-requires
+entry-room-requires c κs = tt
 
-same-length : tie.Need-same-length Inv-loop μ-loop
-same-length c = let turned = c .before .before .before .before .before .before .before .before .before in turned .turn .kept .0 ∙ turned .before .before .before .before .before .before .before .loop .inv .long .array
+index-room-requires : tie.Need-index-room-requires
+index-room-requires c κs = tt
 
-same-length-2 : tie.Need-same-length-2 Inv-loop μ-loop
-same-length-2 c = let turned = c .before .before .before .before .before .before .before .before .before in turned .turn .kept .1 .0 ∙ turned .before .before .before .before .before .before .before .loop .inv .long .entries
+slice-aggregate-fresh : tie.Need-slice-aggregate-fresh
+slice-aggregate-fresh c = c .before .before .before .array-room .ensures
 
-same-length-3 : tie.Need-same-length-3 Inv-loop μ-loop
-same-length-3 c = let turned = c .before .before .before .before .before .before .before .before .before in turned .turn .kept .1 .1 .0 ∙ turned .before .before .before .before .before .before .before .loop .inv .long .index
+slice-aggregate-fresh-2 : tie.Need-slice-aggregate-fresh-2
+slice-aggregate-fresh-2 c = c .before .before .before .entry-room .ensures
 
-returns : tie.Need-returns Inv-loop μ-loop
-returns c = tt
+slice-aggregate-fresh-3 : tie.Need-slice-aggregate-fresh-3
+slice-aggregate-fresh-3 c = c .before .before .before .index-room .ensures
 
-sub-turns : tie.Need-sub-turns Inv-loop μ-loop
-sub-turns c = c .before .before .before .before .before .before .before .before .before .before .before .before .before .before .before .before .loop-test .taken
+fresh-requires : tie.Need-fresh-requires
+fresh-requires c κs = tt
 
-loop-less : tie.Need-loop-less Inv-loop μ-loop
-loop-less c = falls-down _ (c .before .before .before .before .before .before .before .before .before .before .before .before .before .before .before .before .loop-test .taken)
+enum-known-sizes : tie.Need-enum-known-sizes
+enum-known-sizes c = search needs
 
-loop-again : tie.Need-loop-again Inv-loop μ-loop
-loop-again c =
-    let turned = c .before .before .before .before .before .before .before .before .before .before in
-    let inv = turned .before .before .before .before .before .before .before .loop .inv in
-    let kept = turned .turn .kept in
-    let after = turned .turn .ensures (c .before .if1 .left) in
-    record {
-      long = record { array = kept .0 ∙ inv .long .array; entries = kept .1 .0 ∙ inv .long .entries; index = kept .1 .1 .0 ∙ inv .long .index };
-      reads = inv .reads ∙ sym (kept .1 .1 .1 .1 .0);
-      writes = inv .writes ∙ sym (kept .1 .1 .1 .1 .1 .1 .0);
-      sound = after .0;
-      short = after .1;
-    }
+slice-aggregate-take-turns : tie.Need-slice-aggregate-take-turns
+slice-aggregate-take-turns c =
+    let made = c .before .before .before .before .before .before .before in
+    long made .array ∙ sym (made .fresh .kept .0)
 
-same-length-4 : tie.Need-same-length-4 Inv-loop μ-loop
-same-length-4 c = c .before .loop .inv .long .array
+slice-aggregate-take-turns-2 : tie.Need-slice-aggregate-take-turns-2
+slice-aggregate-take-turns-2 c =
+    let made = c .before .before .before .before .before .before .before .before in
+    long made .entries ∙ sym (made .fresh .kept .1 .0)
 
-same-length-5 : tie.Need-same-length-5 Inv-loop μ-loop
-same-length-5 c = c .before .loop .inv .long .entries
+slice-aggregate-take-turns-3 : tie.Need-slice-aggregate-take-turns-3
+slice-aggregate-take-turns-3 c =
+    let made = c .before .before .before .before .before .before .before .before .before in
+    long made .index ∙ sym (made .fresh .kept .1 .1 .0)
 
-same-length-6 : tie.Need-same-length-6 Inv-loop μ-loop
-same-length-6 c = c .before .loop .inv .long .index
+take-turns-requires : tie.Need-take-turns-requires
+take-turns-requires c κs =
+    let known = c .before .before .before .before in
+    subst Sound (sym (begun (known .before .before .before .before .before) _ (known .sizes .given .1))) trace-sound
 
-returns-2 : tie.Need-returns-2 Inv-loop μ-loop
-returns-2 c = tt
+enum-told : tie.Need-enum-told
+enum-told c = search needs
+
+returns : tie.Need-returns
+returns c =
+    let turned = c .before .before .before in
+    let known = turned .before .before .before .before .before in
+    subst (λ (s : Store). Run s (turned .take-turns .result)) (begun (known .before .before .before .before .before) _ (known .sizes .given .1)) (turned .take-turns .ensures)
+
+returns-2 : tie.Need-returns-2
+returns-2 c =
+    let made = c .before .before .before .before .before in
+    absurd (fresh-comes (room made) (left made) (long made) _ (subst (FreshMade (room made) (left made)) (c .enum-told .given .1) (made .fresh .ensures)))
 
 pub run-spec : {M : Type 1} → statement M
 run-spec =
     tie.close
     (tie.spec
-    Inv-loop
-    μ-loop
-    input-room-requires
-    output-room-requires
-    loop-holds
-    slice-aggregate-turn
-    slice-aggregate-turn-2
-    turn-requires
-    same-length
-    same-length-2
-    same-length-3
+    array-room-requires
+    entry-room-requires
+    index-room-requires
+    slice-aggregate-fresh
+    slice-aggregate-fresh-2
+    slice-aggregate-fresh-3
+    fresh-requires
+    enum-known-sizes
+    slice-aggregate-take-turns
+    slice-aggregate-take-turns-2
+    slice-aggregate-take-turns-3
+    take-turns-requires
+    enum-told
     returns
-    sub-turns
-    loop-less
-    loop-again
-    same-length-4
-    same-length-5
-    same-length-6
     returns-2)
