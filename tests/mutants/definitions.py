@@ -9,14 +9,17 @@ import time
 from collections import Counter
 from pathlib import Path
 
-from mutants.prover import ERROR, rt
+from mutants import promise_rules
+from mutants.listing import agree, change_of, listed, table
+from mutants.prover import ERROR, FACT, SHAPE, SURVIVED, UNDECIDED, Copy, rt
+from mutants.promise_rules import UNTYPED
 from mutants.term_rules import Changes
 from mutants.terms import Definitions
 
 MODULES = ("Entries", "Table", "Growth", "Calls", "Length")  # leaves first; the rows use all of them
 TOGETHER = 40  # mutants a run of the prover
-ROW, UNTYPED, LEFT, UNDECIDED = "by a row", "no definition", "by no row", "no verdict"
-CLASSES = (ROW, UNTYPED, LEFT, UNDECIDED)
+USERS = ("walk", "original", "demands")  # the crates that cite the model's promises, or are over those that do
+ROW, LEFT = "by a row", "by no row"
 # what a change may bring in
 NAMES = {
     "mathlib.Core.Bool": ("true", "false", "not", "cond", "_&&_", "_||_"),
@@ -61,20 +64,12 @@ class Variants:
         (self.model / "src").mkdir(parents=True)
         (self.model / "src/lib.rt").write_text("// No program.\n")
         specs = root / "crates/model/specs"
-        self.texts = {name: with_names((specs / f"{name}.antt").read_text()) for name in MODULES}
-        self.texts["Rows"] = (specs / "Rows.antt").read_text()
+        self.texts = {name: (specs / f"{name}.antt").read_text() for name in (*MODULES, "Rows")}
         self.claim = (root / "crates/model/proofs/Rows.antt").read_text()
 
     def mutants(self):
         definitions = Definitions(self.texts[name] for name in MODULES)
         return [m for name in MODULES for m in Changes(definitions, name, self.texts[name]).all()]
-
-    def change_of(self, m):
-        """The lines before and after, each in one line."""
-        text = self.texts[m.file]
-        first, last = text.rfind("\n", 0, m.start) + 1, text.find("\n", m.end)
-        old, new = text[first:last], text[first : m.start] + m.new + text[m.end : last]
-        return " ".join(old.split()), " ".join(new.split())
 
     def written(self, batch, answer):
         """The modules of a batch, numbered by its mutants, and the claims."""
@@ -87,7 +82,8 @@ class Variants:
             (self.model / f"specs/{name}.antt").write_text(text)
         claims = []
         for n, m in batch.items():
-            texts = {**self.texts, m.file: self.texts[m.file][: m.start] + m.new + self.texts[m.file][m.end :]}
+            before = self.texts[m.file]
+            texts = {**self.texts, m.file: with_names(before[: m.start] + m.new + before[m.end :])}
             copied = names[names.index(m.file) :]
             moved = re.compile(rf"specs\.specs\.({'|'.join(copied)})\.")
             for name in copied:
@@ -123,3 +119,58 @@ class Variants:
             true = self.refused(left, "true")
             said.update({n: (LEFT, "") for n in left if n not in true})
         return said
+
+
+
+def computed(root):
+    """Every mutant of what computes, before the rows."""
+    variants, said, began = Variants(root), {}, time.time()
+    found = dict(enumerate(variants.mutants(), 1))
+    for first in range(1, len(found) + 1, TOGETHER):
+        batch = {n: found[n] for n in range(first, min(first + TOGETHER, len(found) + 1))}
+        said.update((found[n], answer) for n, answer in variants.tried(batch).items())
+        print(f"definitions: {len(said)} of {len(found)}, {time.time() - began:.0f} s", flush=True)
+    return said
+
+
+def promised(root):
+    """Every mutant of a promise, before the model's proofs and those that use it."""
+    copy, said, found, began = Copy(root), {}, promise_rules.mutants(root), time.time()
+    copy.ready("model")
+    for m in found:
+        said[m] = promise_rules.asked(copy, m, USERS)
+        print(f"promises: {len(said)} of {len(found)}, {time.time() - began:.0f} s", flush=True)
+    return said
+
+
+def gathered(root, said, logs):
+    """The numbers by module and class, and the mutants that nothing refused; a line for each goes to target/mutants."""
+    counts, left, lines = Counter(), Counter(), []
+    for m, (what, why) in said.items():
+        path = f"crates/model/specs/{m.file}.antt"
+        one, line = change_of((root / path).read_text(), m, path)
+        counts[m.file, what] += 1
+        left[one] += what in (LEFT, SURVIVED)
+        lines.append("\t".join((what, f"{path}:{line}", m.function, m.rule, one.old, one.new, why[:200])))
+    logs.parent.mkdir(parents=True, exist_ok=True)
+    logs.write_text("\n".join(lines) + "\n")
+    return counts, left
+
+
+def run(root, only_list):
+    """The pass; with `only_list` it only says what the mutants are."""
+    if only_list:
+        for m in Variants(root).mutants() + promise_rules.mutants(root):
+            path = f"crates/model/specs/{m.file}.antt"
+            one, line = change_of((root / path).read_text(), m, path)
+            print(f"{path}:{line} {m.function}: {one.old} -> {one.new}")
+        return 0
+    logs = root / "target/mutants/definitions"
+    by_row, left = gathered(root, computed(root), logs / "computed.txt")
+    by_proof, survived = gathered(root, promised(root), logs / "promises.txt")
+    table("module", MODULES, (ROW, UNTYPED, LEFT, UNDECIDED), by_row)
+    table("module", list(promise_rules.MODULES), (FACT, SHAPE, UNTYPED, SURVIVED, UNDECIDED), by_proof)
+    undecided = sum(n for counts in (by_row, by_proof) for (_, what), n in counts.items() if what == UNDECIDED)
+    good = agree(left + survived, listed(Path(__file__).with_name("definitions.txt")), "definitions.txt") and not undecided
+    print(f"{sum((left + survived).values())} not refused, {undecided} without a verdict: {'as definitions.txt has it' if good else 'FAILED'}")
+    return 0 if good else 1

@@ -380,6 +380,10 @@ doubled = int 1 ∷ int 2 ∷ clear (integer 1) ∷ lengthIs 2 ∷ clear (intege
 abbrev pub doublings : List Line
 doublings = ints 4 0 ++ (str 1 ∷ int 10 ∷ lengthIs 4 ∷ int 5 ∷ lengthIs 5 ∷ int 8 ∷ lengthIs 10 ∷ clear (integer 8) ∷ clear (integer 5) ∷ lengthIs 4 ∷ [])
 
+-- between 4 and 10 the middle is 7, and between 4 and 7 it is 5: 6 is a border too, and is not met
+abbrev pub rounded : List Line
+rounded = ints 4 0 ++ (str 1 ∷ int 5 ∷ int 6 ∷ clear (integer 5) ∷ lengthIs 4 ∷ [])
+
 abbrev pub rows : List Row
 rows =
     row 16 16 p1
@@ -421,4 +425,5 @@ rows =
     ∷ row 8 16 halving
     ∷ row 0 16 doubled
     ∷ row 4 16 doublings
+    ∷ row 4 16 rounded
     ∷ []
