@@ -225,33 +225,15 @@ reserves =
 -- ---- set: what was there, whichever way it goes
 abbrev pub answered : List Line
 answered =
-    int 1
-    ∷ (set (integer 1) (integer 7) gives doneYes)
-    ∷ (set (integer 1) nil gives was (integer 7))
-    ∷ int 1
-    ∷ str 1
-    ∷ str 2
-    ∷ (set (string 2) (integer 8) gives doneYes)
-    ∷ (get (string 2) gives numbers (integer 8))
-    ∷ (set (string 2) nil gives was (integer 8))
-    ∷ str 2
-    ∷ (set (string 3) nil gives done)
-    ∷ sizes 1 4 2
-    ∷ int 2
-    ∷ sizes 1 4 3
-    ∷ []
+    int 1 ∷ (set (integer 1) (integer 7) gives doneYes) ∷ (set (integer 1) nil gives was (integer 7)) ∷ int 1 ∷ str 1 ∷ str 2
+    ∷ (set (string 2) (integer 8) gives doneYes) ∷ (get (string 2) gives numbers (integer 8)) ∷ (set (string 2) nil gives was (integer 8)) ∷ str 2
+    ∷ (set (string 3) nil gives done) ∷ sizes 1 4 2 ∷ int 2 ∷ sizes 1 4 3 ∷ []
 
 -- Nil is refused as 1 and a NaN as 2, whatever the value; neither has a value or a place in a walk
 abbrev pub keyless : List Line
 keyless =
-    int 1
-    ∷ (set nil yes gives (1 ∷ numbers nil))
-    ∷ (set nil nil gives (1 ∷ numbers nil))
-    ∷ (set aNaN yes gives (2 ∷ numbers nil))
-    ∷ (get aNaN gives numbers nil)
-    ∷ (get nil gives numbers nil)
-    ∷ sizes 1 0 0
-    ∷ []
+    int 1 ∷ (set nil yes gives (1 ∷ numbers nil)) ∷ (set nil nil gives (1 ∷ numbers nil)) ∷ (set aNaN yes gives (2 ∷ numbers nil))
+    ∷ (get aNaN gives numbers nil) ∷ (get nil gives numbers nil) ∷ sizes 1 0 0 ∷ []
 
 -- 2 ^ 63 is the largest integer's key, and -2 ^ 63 the smallest's
 abbrev pub saturated : List Line
@@ -298,16 +280,16 @@ abbrev pub unshrunk : List Line
 unshrunk = ints 4 0 ++ (clear (integer 2) ∷ clear (integer 3) ∷ clear (integer 4) ∷ str 1 ∷ sizes 4 4 1 ∷ int 4 ∷ sizes 4 4 1 ∷ [])
 
 -- ---- the allowance
--- a key that goes to the array leaves it, though three entries remain of four allowed
+-- it stays where the new key goes to the array, though three entries remain of four allowed
 abbrev pub spared : List Line
 spared = strs 3 0 ++ (int 2 ∷ int 1 ∷ sizes 2 4 3 ∷ [])
 
--- two remain of four, or of five, allowed
-abbrev pub twoOfFour : List Line
-twoOfFour = (reserve 4 gives done) ∷ strs 4 0 ++ (clear (string 1) ∷ clear (string 2) ∷ str 5 ∷ sizes 0 8 3 ∷ [])
+-- three remain of six allowed, and of seven
+abbrev pub threeOfSix : List Line
+threeOfSix = (reserve 6 gives done) ∷ strs 6 0 ++ (clear (string 1) ∷ clear (string 2) ∷ clear (string 3) ∷ str 7 ∷ sizes 0 12 4 ∷ [])
 
-abbrev pub twoOfFive : List Line
-twoOfFive = (reserve 5 gives done) ∷ strs 5 0 ++ (clear (string 1) ∷ clear (string 2) ∷ clear (string 3) ∷ str 6 ∷ sizes 0 5 3 ∷ [])
+abbrev pub threeOfSeven : List Line
+threeOfSeven = (reserve 7 gives done) ∷ strs 7 0 ++ (clear (string 1) ∷ clear (string 2) ∷ clear (string 3) ∷ clear (string 4) ∷ str 8 ∷ sizes 0 7 4 ∷ [])
 
 -- 4 at least, as far as the room goes
 abbrev pub fourAtLeast : List Line
@@ -319,17 +301,8 @@ threeAtMost = str 1 ∷ sizes 0 3 1 ∷ []
 -- a reserve allows just what it must, and leaves the array
 abbrev pub allowed : List Line
 allowed =
-    (reserve 3 gives done)
-    ∷ sizes 0 3 0
-    ∷ int 1
-    ∷ str 1
-    ∷ str 2
-    ∷ int 2
-    ∷ sizes 2 3 2
-    ∷ clear (string 1)
-    ∷ (reserve 4 gives done)
-    ∷ sizes 2 5 1
-    ∷ walks nil (integer 1 ∷ integer 2 ∷ string 2 ∷ [])
+    (reserve 3 gives done) ∷ sizes 0 3 0 ∷ int 1 ∷ str 1 ∷ str 2 ∷ int 2 ∷ sizes 2 3 2 ∷ clear (string 1)
+    ∷ (reserve 4 gives done) ∷ sizes 2 5 1 ∷ walks nil (integer 1 ∷ integer 2 ∷ string 2 ∷ [])
 
 -- ---- next
 -- an empty table, and one whose values are all cleared
@@ -340,12 +313,7 @@ emptied = (next nil gives (1 ∷ [])) ∷ (next (integer 1) gives (2 ∷ [])) �
 abbrev pub gaps : List Line
 gaps =
     ints 3 0
-    ++ (str 1
-    ∷ str 2
-    ∷ clear (integer 2)
-    ∷ clear (string 1)
-    ∷ str 3
-    ∷ sizes 4 4 3
+    ++ (str 1 ∷ str 2 ∷ clear (integer 2) ∷ clear (string 1) ∷ str 3 ∷ sizes 4 4 3
     ∷ walks nil (integer 1 ∷ integer 3 ∷ string 2 ∷ string 3 ∷ [])
     ++ walks (integer 2) (integer 3 ∷ string 2 ∷ string 3 ∷ [])
     ++ walks (integer 4) (string 2 ∷ string 3 ∷ [])
@@ -357,20 +325,8 @@ gaps =
 abbrev pub halving : List Line
 halving =
     ints 8 0
-    ++ (lengthIs 8
-    ∷ clear (integer 8)
-    ∷ lengthIs 7
-    ∷ clear (integer 3)
-    ∷ lengthIs 7
-    ∷ clear (integer 6)
-    ∷ lengthIs 5
-    ∷ clear (integer 4)
-    ∷ lengthIs 2
-    ∷ clear (integer 2)
-    ∷ lengthIs 1
-    ∷ clear (integer 1)
-    ∷ lengthIs 0
-    ∷ [])
+    ++ (lengthIs 8 ∷ clear (integer 8) ∷ lengthIs 7 ∷ clear (integer 3) ∷ lengthIs 7 ∷ clear (integer 6) ∷ lengthIs 5
+    ∷ clear (integer 4) ∷ lengthIs 2 ∷ clear (integer 2) ∷ lengthIs 1 ∷ clear (integer 1) ∷ lengthIs 0 ∷ [])
 
 -- doubling goes on past a cleared entry
 abbrev pub doubled : List Line
@@ -380,10 +336,15 @@ doubled = int 1 ∷ int 2 ∷ clear (integer 1) ∷ lengthIs 2 ∷ clear (intege
 abbrev pub doublings : List Line
 doublings = ints 4 0 ++ (str 1 ∷ int 10 ∷ lengthIs 4 ∷ int 5 ∷ lengthIs 5 ∷ int 8 ∷ lengthIs 10 ∷ clear (integer 8) ∷ clear (integer 5) ∷ lengthIs 4 ∷ [])
 
--- between 4 and 10 the middle is 7, and between 4 and 7 it is 5: 6 is a border too, and is not met
-abbrev pub rounded : List Line
-rounded = ints 4 0 ++ (str 1 ∷ int 5 ∷ int 6 ∷ clear (integer 5) ∷ lengthIs 4 ∷ [])
+-- one entry, just past the array
+abbrev pub alone : List Line
+alone = ints 5 0 ++ (sizes 4 1 1 ∷ lengthIs 5 ∷ [])
 
+-- between 4 and 10 the middle is 7, and from there 5 or 8: 6 and 9 are borders too, and are not met
+abbrev pub rounded : List Line
+rounded = ints 4 0 ++ (int 5 ∷ int 6 ∷ clear (integer 5) ∷ lengthIs 4 ∷ int 9 ∷ int 7 ∷ lengthIs 7 ∷ [])
+
+-- P10 and P11 come last: a definition that another row refuses might take long over them
 abbrev pub rows : List Row
 rows =
     row 16 16 p1
@@ -395,8 +356,6 @@ rows =
     ∷ row 16 16 p7
     ∷ row 16 16 p8
     ∷ row 16 16 p9
-    ∷ row 0 64 p10
-    ∷ row 0 64 p11
     ∷ row 0 12 doubling
     ∷ row 0 16 staying
     ∷ row 32 16 sized
@@ -415,8 +374,8 @@ rows =
     ∷ row 1 2 unmoved
     ∷ row 4 16 unshrunk
     ∷ row 4 16 spared
-    ∷ row 0 16 twoOfFour
-    ∷ row 0 16 twoOfFive
+    ∷ row 0 16 threeOfSix
+    ∷ row 0 16 threeOfSeven
     ∷ row 0 16 fourAtLeast
     ∷ row 0 3 threeAtMost
     ∷ row 2 16 allowed
@@ -425,5 +384,8 @@ rows =
     ∷ row 8 16 halving
     ∷ row 0 16 doubled
     ∷ row 4 16 doublings
+    ∷ row 4 1 alone
     ∷ row 4 16 rounded
+    ∷ row 0 64 p10
+    ∷ row 0 64 p11
     ∷ []
