@@ -5,14 +5,18 @@ import re
 
 from mutants.prover import ERROR, SECONDS, SURVIVED, rt, verdict
 from mutants.rules import Mutant
+from mutants.terms import with_names
 
 # the modules that declare promises; in those that compute, these alone
 MODULES = {"Entries": ("distinct",), "Growth": ("Passes",), "WellFormed": None, "Manual": None, "Means": None, "Refused": None}
 
+NAMES = {"mathlib.Core.Bool": ("true", "false"), "Prim.Native.Nat": ("_≤_", "_<_")}  # what a change may bring in
 UNTYPED = "no definition"
 # a declaration of statements: a record or a data type with its lines, or a definition that gives a type, with its clauses
 DECLARED = re.compile(
-    r"^pub (?:record|data) (\w+) .*where\n(?:(?:  .*|)\n)*(?:  .*\n?)|^(?:abbrev|unfoldable) pub (\w+) : .*Type 0\n(?:(?!--|pub|abbrev|unfoldable|use)\S.*\n?)+", re.M
+    r"^pub (?:record|data) (\w+) .*where\n(?:(?:  .*|)\n)*(?:  .*\n?)"
+    r"|^(?:abbrev|unfoldable) pub (\w+) : .*Type 0\n(?:(?!--|pub|abbrev|unfoldable|use)\S.*\n?)+",
+    re.M,
 )
 BINDER = re.compile(r"[({]((?:\w+ )+): (\w+(?: \w+)?)[)}]")
 WORD = re.compile(r"(?<![\w.·{])(?:true|false|inl|inr|\d+|[A-Za-z]\w*|\.[A-Za-z]\w*|≤|<|⊎|×)(?![\w·])|(?<=\s)\.[a-z]\w*")
@@ -68,7 +72,7 @@ def asked(copy, m, users):
     path = copy.root / f"crates/model/specs/{m.file}.antt"
     with copy.restored("model"):
         text = path.read_text()
-        path.write_text(text[: m.start] + m.new + text[m.end :])
+        path.write_text(with_names(text[: m.start] + m.new + text[m.end :], NAMES))
         status, log = rt(copy.root, "dev", "model", seconds=SECONDS)
         if any("model/specs/" in file for file, _, _ in ERROR.findall(log)):
             return UNTYPED, ERROR.findall(log)[0][2]

@@ -118,7 +118,8 @@ class Changes:
             self.add("name", term, name)
         if not (kind == "Bool" and tested):
             for constant in CONSTANTS.get(kind, ["[]"] if kind.startswith("List ") else []):
-                self.add("constant", term, constant)
+                if constant != "[]" or parent is None or parent.text != "length":  # of what type an empty list is, `length []` does not say
+                    self.add("constant", term, constant)
         if kind == "ℕ" and term.kind != "number":
             self.add("one more", term, f"suc {closed(bare(self.of(term)))}")
             self.add("one less", term, f"pred {closed(bare(self.of(term)))}")

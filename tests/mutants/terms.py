@@ -66,6 +66,19 @@ def arrows(kind):
     return [p[1:-1] if p.startswith("(") else p for p in parts if not p.startswith("{")]
 
 
+def with_names(text, names):
+    """A module with these names in scope, by the modules that declare them. Those of the model itself are for modules that use it already."""
+    lists = re.findall(r"^use [^\n{]*\{([^}]*)\}", text, re.M)
+    had = {name.strip() for names_of in lists for name in names_of.split(",")} | set(re.findall(r"^(?:abbrev |unfoldable )?pub (\w+) :", text, re.M))
+    lines = []
+    for module, wanted in names.items():
+        missing = [n for n in wanted if n not in had]
+        if missing and ("Rattle.model" not in module or f"use {module}." in text):
+            lines.append(f"use {module}.{{{', '.join(missing)}}}\n")
+    at = text.index("use ")
+    return text[:at] + "".join(lines) + text[at:]
+
+
 class Reader:
     """A term from the tokens of a clause's body."""
 

@@ -222,14 +222,15 @@ reserves =
     ∷ strs 3 2
     ++ (clear (string 3) ∷ clear (string 4) ∷ (reserve 1 gives done) ∷ sizes 0 4 2 ∷ []))
 
--- ---- set: what was there, whichever way it goes
+-- ---- set
+-- the previous value, on every way that a set can go
 abbrev pub answered : List Line
 answered =
     int 1 ∷ (set (integer 1) (integer 7) gives doneYes) ∷ (set (integer 1) nil gives was (integer 7)) ∷ int 1 ∷ str 1 ∷ str 2
     ∷ (set (string 2) (integer 8) gives doneYes) ∷ (get (string 2) gives numbers (integer 8)) ∷ (set (string 2) nil gives was (integer 8)) ∷ str 2
     ∷ (set (string 3) nil gives done) ∷ sizes 1 4 2 ∷ int 2 ∷ sizes 1 4 3 ∷ []
 
--- Nil is refused as 1 and a NaN as 2, whatever the value; neither has a value or a place in a walk
+-- Nil is refused as 1 and a NaN as 2, also when the value is Nil; neither has a value
 abbrev pub keyless : List Line
 keyless =
     int 1 ∷ (set nil yes gives (1 ∷ numbers nil)) ∷ (set nil nil gives (1 ∷ numbers nil)) ∷ (set aNaN yes gives (2 ∷ numbers nil))
@@ -244,7 +245,7 @@ saturated =
     ∷ hands nil (entry (integer largest) (integer 7) ∷ entry (integer (suc largest)) (integer 8) ∷ [])
 
 -- ---- candidates
--- a cleared entry is none, and does not hide those after it
+-- a cleared entry is no candidate, and does not hide those after it
 abbrev pub uncounted : List Line
 uncounted = int 2 ∷ clear (integer 2) ∷ str 1 ∷ str 2 ∷ str 3 ∷ int 1 ∷ sizes 1 4 3 ∷ []
 
@@ -271,7 +272,7 @@ moved =
     ∷ sizes 4 4 2
     ∷ hands nil (entry (integer 1) (integer 15) ∷ entry (integer 2) (integer 14) ∷ entry (integer 3) (integer 13) ∷ entry (string 1) (integer 11) ∷ entry (string 2) (integer 12) ∷ [])
 
--- the entry just past the array stays one
+-- an entry whose index is just past the array stays an entry
 abbrev pub unmoved : List Line
 unmoved = int 2 ∷ str 1 ∷ int 1 ∷ sizes 1 2 2 ∷ walks nil (integer 1 ∷ integer 2 ∷ string 1 ∷ [])
 
@@ -280,11 +281,11 @@ abbrev pub unshrunk : List Line
 unshrunk = ints 4 0 ++ (clear (integer 2) ∷ clear (integer 3) ∷ clear (integer 4) ∷ str 1 ∷ sizes 4 4 1 ∷ int 4 ∷ sizes 4 4 1 ∷ [])
 
 -- ---- the allowance
--- it stays where the new key goes to the array, though three entries remain of four allowed
+-- M stays where the new key goes to the array, though three entries remain of four allowed
 abbrev pub spared : List Line
 spared = strs 3 0 ++ (int 2 ∷ int 1 ∷ sizes 2 4 3 ∷ [])
 
--- three remain of six allowed, and of seven
+-- three entries remain of six allowed, which is half, and of seven, which is less
 abbrev pub threeOfSix : List Line
 threeOfSix = (reserve 6 gives done) ∷ strs 6 0 ++ (clear (string 1) ∷ clear (string 2) ∷ clear (string 3) ∷ str 7 ∷ sizes 0 12 4 ∷ [])
 
@@ -298,7 +299,7 @@ fourAtLeast = (reserve 1 gives done) ∷ str 1 ∷ sizes 0 1 1 ∷ str 2 ∷ siz
 abbrev pub threeAtMost : List Line
 threeAtMost = str 1 ∷ sizes 0 3 1 ∷ []
 
--- a reserve allows just what it must, and leaves the array
+-- a reserve allows just what it must, and leaves the array as it was
 abbrev pub allowed : List Line
 allowed =
     (reserve 3 gives done) ∷ sizes 0 3 0 ∷ int 1 ∷ str 1 ∷ str 2 ∷ int 2 ∷ sizes 2 3 2 ∷ clear (string 1)
@@ -309,7 +310,7 @@ allowed =
 abbrev pub emptied : List Line
 emptied = (next nil gives (1 ∷ [])) ∷ (next (integer 1) gives (2 ∷ [])) ∷ lengthIs 0 ∷ int 1 ∷ str 1 ∷ clear (integer 1) ∷ clear (string 1) ∷ walks nil [] ++ (lengthIs 0 ∷ [])
 
--- on from an array's Nil and from a cleared entry, both of which keep their places while others are added
+-- a walk goes on from an array's Nil and from a cleared entry, and both keep their places while others are added
 abbrev pub gaps : List Line
 gaps =
     ints 3 0
@@ -332,7 +333,7 @@ halving =
 abbrev pub doubled : List Line
 doubled = int 1 ∷ int 2 ∷ clear (integer 1) ∷ lengthIs 2 ∷ clear (integer 2) ∷ lengthIs 0 ∷ []
 
--- doubling from A + 1: 5, 10, 20; then 12, 8 and 10 or 6 and 5 are looked at
+-- doubling from A + 1 goes by 5, 10 and 20; halving then looks at 12, 8 and 10, or at 12, 8, 6 and 5
 abbrev pub doublings : List Line
 doublings = ints 4 0 ++ (str 1 ∷ int 10 ∷ lengthIs 4 ∷ int 5 ∷ lengthIs 5 ∷ int 8 ∷ lengthIs 10 ∷ clear (integer 8) ∷ clear (integer 5) ∷ lengthIs 4 ∷ [])
 
@@ -344,7 +345,7 @@ alone = ints 5 0 ++ (sizes 4 1 1 ∷ lengthIs 5 ∷ [])
 abbrev pub rounded : List Line
 rounded = ints 4 0 ++ (int 5 ∷ int 6 ∷ clear (integer 5) ∷ lengthIs 4 ∷ int 9 ∷ int 7 ∷ lengthIs 7 ∷ [])
 
--- P10 and P11 come last: a definition that another row refuses might take long over them
+-- P10 and P11 stand last: a wrong definition might take too many steps over them, and another row refuses it first
 abbrev pub rows : List Row
 rows =
     row 16 16 p1
