@@ -86,7 +86,7 @@ class Variants:
     def refused(self, batch, answer):
         """The mutants of a batch whose claim was refused, with the files and words of the errors."""
         self.written(batch, answer)
-        status, log = rt(self.root, "dev", "model")
+        _, log = rt(self.root, "dev", "model")
         if not re.search(r"^logic=|stopped at the step limit", log, re.M):
             raise SystemExit(f"definitions: the prover gave no verdict:\n{log[-2000:]}")
         found = {}

@@ -9,7 +9,6 @@ from mutants.terms import with_names
 
 # the modules that declare promises; in those that compute, these alone
 MODULES = {"Entries": ("distinct",), "Growth": ("Passes",), "WellFormed": None, "Manual": None, "Means": None, "Refused": None}
-
 NAMES = {"mathlib.Core.Bool": ("true", "false"), "Prim.Native.Nat": ("_≤_", "_<_")}  # what a change may bring in
 UNTYPED = "no definition"
 # a declaration of statements: a record or a data type with its lines, or a definition that gives a type, with its clauses
@@ -19,7 +18,7 @@ DECLARED = re.compile(
     re.M,
 )
 BINDER = re.compile(r"[({]((?:\w+ )+): (\w+(?: \w+)?)[)}]")
-WORD = re.compile(r"(?<![\w.·{])(?:true|false|inl|inr|\d+|[A-Za-z]\w*|\.[A-Za-z]\w*|≤|<|⊎|×)(?![\w·])|(?<=\s)\.[a-z]\w*")
+WORD = re.compile(r"(?<![\w.·{])(?:\d+|[A-Za-z]\w*|≤|<|⊎|×)(?![\w·])|(?<=\s)\.[a-z]\w*")
 OTHERS = {"≤": ["<"], "<": ["≤"], "true": ["false"], "false": ["true"], "⊎": ["×"], "suc": [""], "not": [""]}
 FIELDS = [[".arrayRoom", ".entryRoom", ".classes"], [".key", ".value"], [".kind", ".payload"]]
 

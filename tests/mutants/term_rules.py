@@ -30,6 +30,8 @@ def closed(text):
 
 
 class Changes:
+    """The mutants of one module."""
+
     def __init__(self, definitions, file, text):
         self.definitions, self.file, self.text, self.found = definitions, file, text, []
 
@@ -63,7 +65,7 @@ class Changes:
         self.order(term, scope)
         if kind and term.kind != "let":
             self.other(term, scope, kind, parent)
-        wanted = self.taken(term, scope)
+        wanted = self.taken(term)
         for i, part in enumerate(term.parts):
             inner = scope
             if term.kind == "let" and i == 1 or term.kind == "lambda":
@@ -71,11 +73,13 @@ class Changes:
             if not (term.kind == "call" and i == 0):
                 self.visit(part, inner, wanted[i], term)
 
-    def taken(self, term, scope):
+    def taken(self, term):
         """The types of a call's parts as its head says them, of others None."""
-        kinds = self.definitions.types.get(term.text) if term.kind == "call" else None
-        known = [k if k and not {"X", "List X"} & {k} else None for k in kinds[:-1]] if kinds else []
-        return ([None] + known + [None] * len(term.parts))[: len(term.parts)] if term.kind == "call" else [None] * len(term.parts)
+        if term.kind != "call":
+            return [None] * len(term.parts)
+        kinds = self.definitions.types.get(term.text) or [None]
+        known = [None if k in ("X", "List X") else k for k in kinds[:-1]]
+        return ([None] + known + [None] * len(term.parts))[: len(term.parts)]
 
     def itself(self, term):
         """Another number, operator or function in the same place."""

@@ -18,6 +18,7 @@ leb : ℕ → ℕ → Bool
 ltb : ℕ → ℕ → Bool
 same : Words → Words → Bool
 isNil : Words → Bool
+decodes : Words → Bool
 nil : Words
 suc : ℕ → ℕ
 pred : ℕ → ℕ
@@ -75,7 +76,7 @@ def with_names(text, names):
         missing = [n for n in wanted if n not in had]
         if missing and ("Rattle.model" not in module or f"use {module}." in text):
             lines.append(f"use {module}.{{{', '.join(missing)}}}\n")
-    at = text.index("use ")
+    at = re.search(r"^use ", text, re.M).start()
     return text[:at] + "".join(lines) + text[at:]
 
 
