@@ -1,10 +1,10 @@
 """The mutation pass: every mutant of the named crates before the prover, a table of what became of them, and the survivors held to survivors.txt;
 and the wrong programs and definitions under edits/, each of which must be refused at a fact. tests/mutants/run runs it; with --list it only
-says what the mutants are, and with --edits it tries the edits alone."""
+says what the mutants are, with --edits it tries the edits alone, and with --definitions it changes the model's definitions instead."""
 
 import sys
 import time
-from collections import Counter, namedtuple
+from collections import Counter
 from itertools import zip_longest
 from pathlib import Path
 
@@ -13,38 +13,19 @@ HERE = Path(__file__).resolve().parent
 ROOT = HERE.parents[1]
 sys.path.append(str(HERE.parent))
 
+from mutants import definitions
+from mutants.listing import agree, change_of, listed, table
 from mutants.prover import CLASSES, FACT, SURVIVED, UNDECIDED, Copy
 from mutants.rules import mutants
 from mutants.source import Names
 
 CRATES = ("growth", "index", "reads", "rehash", "writes", "store", "lent", "key", "value")
 USERS = ("store", "reads", "writes")  # leaves first; all other crates with a constant in use are below these
-FIELDS = ("file", "fn", "old", "new", "why")
-
-Change = namedtuple("Change", "file fn old new")
 
 
-def change_of(crate, m):
-    """A mutant as its lines before and after, each in one line, and the number of the first."""
-    text = (ROOT / "crates" / crate / "src" / m.file).read_text()
-    first, last = text.rfind("\n", 0, m.start) + 1, text.find("\n", m.end)
-    old, new = text[first:last], text[first : m.start] + m.new + text[m.end : last]
-    change = Change(f"crates/{crate}/src/{m.file}", m.function, " ".join(old.split()), " ".join(new.split()))
-    return change, text.count("\n", 0, m.start) + 1
-
-
-def listed():
-    """The survivors that have a reason: blocks of five lines, one a field."""
-    found = Counter()
-    for block in (HERE / "survivors.txt").read_text().split("\n\n"):
-        lines = [line for line in block.splitlines() if line and not line.startswith("#")]
-        if not lines:
-            continue
-        fields = dict(line.split(": ", 1) for line in lines)
-        if tuple(fields) != FIELDS:
-            raise SystemExit(f"mutants: survivors.txt: a block has not the fields {', '.join(FIELDS)}:\n{block}")
-        found[Change(*(fields[f] for f in FIELDS[:4]))] += 1
-    return found
+def change(crate, m):
+    path = f"crates/{crate}/src/{m.file}"
+    return change_of((ROOT / path).read_text(), m, path)
 
 
 def batches(found):
@@ -82,7 +63,7 @@ def tried(copy, crate, found, counts, survivors):
     lines = []
     for n, m in enumerate(found, 1):
         what, why, log = said[m]
-        one, line = change_of(crate, m)
+        one, line = change(crate, m)
         counts[crate, what] += 1
         survivors[one] += what == SURVIVED
         lines.append("\t".join((str(n), what, f"{one.file}:{line}", one.fn, m.rule, one.old, one.new, why[:200])))
@@ -92,24 +73,12 @@ def tried(copy, crate, found, counts, survivors):
     (logs / "all.txt").write_text("\n".join(lines) + "\n")
 
 
-def table(crates, counts):
-    """A row for each crate and one for all."""
-    print("| crate | mutants | " + " | ".join(CLASSES) + " |\n|---|" + "---|" * (len(CLASSES) + 1))
-    for name in (*crates, "all"):
-        row = [sum(counts[c, k] for c in (crates if name == "all" else [name])) for k in CLASSES]
-        print(f"| {name} | {sum(row)} | " + " | ".join(map(str, row)) + " |")
-
-
 def judged(crates, counts, survivors):
-    """Whether the survivors are those of the list; what is wrong is printed."""
-    known = Counter({c: n for c, n in listed().items() if c.file.split("/")[1] in crates})
-    for one in survivors - known:
-        print(f"survived, and survivors.txt has no reason for it: {one.file} {one.fn}: {one.old} -> {one.new}")
-    for one in known - survivors:
-        print(f"in survivors.txt, and it did not survive: {one.file} {one.fn}: {one.old} -> {one.new}")
+    """Whether the survivors are those of the list."""
+    known = Counter({c: n for c, n in listed(HERE / "survivors.txt").items() if c.file.split("/")[1] in crates})
     undecided = sum(counts[c, UNDECIDED] for c in crates)
     total, left = sum(counts.values()), sum(survivors.values())
-    good = not survivors - known and not known - survivors and not undecided
+    good = agree(survivors, known, "survivors.txt") and not undecided
     print(f"{total} mutants, {left} survived, {undecided} without a verdict: {'as survivors.txt has it' if good else 'FAILED'}")
     return good
 
@@ -117,12 +86,14 @@ def judged(crates, counts, survivors):
 def told(crates, names):
     for crate in crates:
         for m in mutants(ROOT, crate, names):
-            one, line = change_of(crate, m)
+            one, line = change(crate, m)
             print(f"{one.file}:{line} {one.fn}: {one.old} -> {one.new}")
 
 
 def main(words):
     crates = [w for w in words if not w.startswith("--")] or list(CRATES)
+    if "--definitions" in words:
+        return definitions.run(ROOT, "--list" in words)
     names = Names(ROOT / "crates")
     if "--list" in words:
         told(crates, names)
@@ -140,7 +111,7 @@ def main(words):
     print(f"{edits} edits, {edits - len(taken)} refused at a fact")
     if "--edits" in words:
         return 1 if taken else 0
-    table(crates, counts)
+    table("crate", crates, CLASSES, counts)
     return 0 if judged(crates, counts, survivors) and not taken else 1
 
 
