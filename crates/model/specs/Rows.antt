@@ -236,6 +236,18 @@ keyless =
     int 1 ∷ (set nil yes gives (1 ∷ numbers nil)) ∷ (set nil nil gives (1 ∷ numbers nil)) ∷ (set aNaN yes gives (2 ∷ numbers nil))
     ∷ (get aNaN gives numbers nil) ∷ (get nil gives numbers nil) ∷ sizes 1 0 0 ∷ []
 
+-- words that are no value's are refused as 15, before a Nil key, a NaN and want of room: a kind above 9, a Nil with a payload, a Boolean
+-- above 1, as the key and as the value; the last words that are a value's are taken
+abbrev refusedAsNone : Words → Words → Line
+refusedAsNone k v = set k v gives (15 ∷ numbers nil)
+
+abbrev pub unvalued : List Line
+unvalued =
+    str 1 ∷ refusedAsNone (words 10 1) yes ∷ refusedAsNone (words 0 1) yes ∷ refusedAsNone (words 1 2) yes
+    ∷ refusedAsNone (string 1) (words 10 1) ∷ refusedAsNone (string 1) (words 0 1) ∷ refusedAsNone (string 1) (words 1 2)
+    ∷ refusedAsNone nil (words 10 1) ∷ refusedAsNone aNaN (words 1 2) ∷ refusedAsNone (string 2) (words 0 1)
+    ∷ (set (string 2) yes gives (3 ∷ numbers nil)) ∷ (set (string 1) (words 9 1) gives doneYes) ∷ (get (string 1) gives numbers (words 9 1)) ∷ []
+
 -- 2 ^ 63 is the largest integer's key, and -2 ^ 63 the smallest's
 abbrev pub saturated : List Line
 saturated =
@@ -366,6 +378,7 @@ rows =
     ∷ row 0 4 reserves
     ∷ row 1 16 answered
     ∷ row 1 16 keyless
+    ∷ row 0 1 unvalued
     ∷ row 4 16 saturated
     ∷ row 4 16 uncounted
     ∷ row 4 2 unhidden
