@@ -43,7 +43,7 @@ reserve-store (ReserveDoes x) s u r o = (ap (store (u .slices)) (sym (o .1)), sy
 reserve-store (ReserveNo n) s u r o = (ap (store (u .slices)) (sym (o .1)), sym (o .0))
 
 -- ---- any row of calls leaves a sound store, from one that `amzighrod_fresh` made
-pub fresh-sound : (before : Slices) (x : Record) (u : Store) → FreshGives before (u .slices) x (u .sizes) 0 → Sound u
+fresh-sound : (before : Slices) (x : Record) (u : Store) → FreshGives before (u .slices) x (u .sizes) 0 → Sound u
 fresh-sound before x u (Stored y, f, o) = subst (λ (z : Record). Sound (store (u .slices) z)) (sym (o .1)) (fresh-made-sound before (u .slices) y f)
 fresh-sound before x u (No n, f, o) = absurd (omega (arith, f .1, o .0))
 
@@ -58,6 +58,9 @@ from-c-sound {s = s} S (set {t = t} key v before after r (a, p, o) rest) =
     from-c-sound (subst Sound (set-store a s t before after r o .0) (p .1 .kept S)) rest
 from-c-sound {s = s} S (reserve {t = t} n r (a, p, o) rest) =
     from-c-sound (subst Sound (reserve-store a s t r o .0) (p .1 .kept S)) rest
+
+pub from-fresh-sound : (before : Slices) (x : Record) (s u : Store) → FreshGives before (s .slices) x (s .sizes) 0 → FromC s u → Sound u
+from-fresh-sound before x s u f c = from-c-sound (fresh-sound before x s f) c
 
 -- ---- a refused call leaves every word, the record and the host's variables as they were, so it may come anywhere in a walk
 pub set-still : (s u : Store) (key v before after : Words) (r : ℕ) → SetGives s key v before u after r → (r ≡ 0 → ⊥) → u ≡ s
