@@ -8,7 +8,7 @@ from mutants.rules import Mutant
 from mutants.terms import with_names
 
 # the modules that declare promises; in those that compute, these alone
-MODULES = {"Entries": ("distinct",), "Growth": ("Passes",), "WellFormed": None, "Manual": None, "Means": None, "Refused": None}
+MODULES = {"Entries": ("distinct",), "Growth": ("Passes",), "WellFormed": None, "Manual": None, "Means": None, "Refused": None, "Settles": None}
 NAMES = {"mathlib.Core.Bool": ("true", "false"), "Prim.Native.Nat": ("_≤_", "_<_")}  # what a change may bring in
 UNTYPED = "no definition"
 # a declaration of statements: a record or a data type with its lines, or a definition that gives a type, with its clauses

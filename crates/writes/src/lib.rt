@@ -176,7 +176,11 @@ fn set_key(
 fn are_values(key: Words, v: Words) -> bool
     ensures { λ r. ⌜ r ≡ areValues key v ⌝ }
 {
-    if lent::decodable(key) { lent::decodable(v) } else { false }
+    if lent::decodable(key) {
+        lent::decodable(v)
+    } else {
+        false
+    }
 }
 
 pub fn set_words(
