@@ -157,7 +157,7 @@ impl<'gc> Side for Original<'gc> {
     }
 
     fn string(handle: u64) -> Value<'gc> {
-        Value::String(String(Gc::from_handle(handle)))
+        Value::String(String(Gc::from_address(handle)))
     }
 
     fn set(&mut self, key: Value<'gc>) {

@@ -7,8 +7,7 @@
        kind 2       Integer     an int64_t, two's complement
        kind 3       Number      the bits of a double; a NaN keeps its bits
        kind 4 to 9  String, Table, Closure, Callback, Thread, UserData: a handle of the host's, the same for the same object
-   Words that are no value's (a higher kind, a Nil with another payload, a Boolean above 1) are not to be passed to a set: it would end
-   and stay in bounds, but what it leaves need not be sound.
+   Words that are no value's (a higher kind, a Nil with another payload, a Boolean above 1), passed as a key or a value, are refused with 15.
 
    A store is three slices that the host lends and three numbers, its record. Every call takes them first, in this order:
        array, arraywords       room for a values, 2 words each: arraywords = 2a, a at most 65,536
@@ -53,10 +52,11 @@ enum {
     AMZIGHROD_KEY_IS_NIL = 1,  /* of set */
     AMZIGHROD_KEY_IS_NAN = 2,  /* of set, also where the value is Nil */
     AMZIGHROD_NO_ROOM = 3,     /* of set and reserve */
-    AMZIGHROD_WRONG_SHAPE = 4  /* of every call but the check, tested first */
+    AMZIGHROD_WRONG_SHAPE = 4, /* of every call but the check, tested first */
+    AMZIGHROD_NO_VALUE = 15    /* of get, set and next, tested after the shape and before all else; not the paper's, which has no such words */
 };
 
-/* What amzighrod_next returns, beside AMZIGHROD_WRONG_SHAPE. */
+/* What amzighrod_next returns, beside AMZIGHROD_WRONG_SHAPE and AMZIGHROD_NO_VALUE. */
 enum {
     AMZIGHROD_FOUND = 0,
     AMZIGHROD_LAST = 1,
@@ -71,12 +71,12 @@ bool amzighrod_check(const uint64_t *array, size_t arraywords, const uint64_t *e
 uint8_t amzighrod_fresh(uint64_t *array, size_t arraywords, uint64_t *entries, size_t entrywords, uint16_t *index, size_t indexwords,
                         size_t *size, size_t *allowance, size_t *count);
 
-/* The value under a key goes to *kind and *payload; Nil where there is none, and for a key that is Nil or NaN. Returns 0 or 4. */
+/* The value under a key goes to *kind and *payload; Nil where there is none, and for a key that is Nil or NaN. Returns 0, 4 or 15. */
 uint8_t amzighrod_get(const uint64_t *array, size_t arraywords, const uint64_t *entries, size_t entrywords, const uint16_t *index,
                       size_t indexwords, size_t size, size_t allowance, size_t count, uint64_t keykind, uint64_t keypayload,
                       uint64_t *kind, uint64_t *payload);
 
-/* Puts a value under a key; Nil clears it. The value that was there, Nil if none, goes to *kind and *payload. Returns 0, 1, 2, 3 or 4.
+/* Puts a value under a key; Nil clears it. The value that was there, Nil if none, goes to *kind and *payload. Returns 0, 1, 2, 3, 4 or 15.
    A Number that is a whole number from -2^63 to 2^63 - 1 is that Integer as a key: 1480.0 and 1480 are one, and so are -0.0 and 0. The Number
    2^63 is the largest Integer as a key, as in the original.
    No room (3) comes where the key is new, all e entries have values, and a larger array would take in neither the key nor any of them. */
@@ -87,7 +87,7 @@ uint8_t amzighrod_set(uint64_t *array, size_t arraywords, uint64_t *entries, siz
 /* The pair after a key, which is read from *keykind and *keypayload; Nil starts. AMZIGHROD_FOUND: the pair's key is written over the key
    passed, and its value to *kind and *payload. AMZIGHROD_LAST: there is no pair after it. AMZIGHROD_NOT_FOUND: it is no key of the table.
    Between the steps of a walk values may be read, overwritten and cleared; a new key or a reserve may make it skip, repeat or lose its place.
-   Returns one of these, or 4. */
+   Returns one of these, or 4 or 15. */
 uint8_t amzighrod_next(const uint64_t *array, size_t arraywords, const uint64_t *entries, size_t entrywords, const uint16_t *index,
                        size_t indexwords, size_t size, size_t allowance, size_t count, uint64_t *keykind, uint64_t *keypayload,
                        uint64_t *kind, uint64_t *payload);

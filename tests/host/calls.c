@@ -28,6 +28,10 @@ struct lent {
 
 static const struct value nil = {AMZIGHROD_NIL, 0}, yes = {AMZIGHROD_BOOLEAN, 1};
 static const struct value nan_key = {AMZIGHROD_NUMBER, 0x7FF8000000000000}, float_1480 = {AMZIGHROD_NUMBER, 0x4097200000000000};
+/* Words that are no value's: a kind above 9, a Nil with a payload, a Boolean above 1. */
+static const struct value no_values[] = {{AMZIGHROD_USERDATA + 1, 0}, {UINT64_MAX, 1}, {AMZIGHROD_NIL, 1}, {AMZIGHROD_NIL, UINT64_MAX},
+                                         {AMZIGHROD_BOOLEAN, 2}, {AMZIGHROD_BOOLEAN, UINT64_MAX}};
+enum { NO_VALUES = sizeof no_values / sizeof *no_values };
 static int tests, failures;
 
 #define EXPECT(right) expect((right), #right, __LINE__)
@@ -97,7 +101,7 @@ static void test_fresh(void) {
     EXPECT(t.size == 0 && t.allowance == 0 && t.count == 0 && guarded(&t) && amzighrod_check(READ(&t)));
 }
 
-/* What holds of every call where the shape is wrong: 4, and nothing is changed; the check says no. */
+/* What holds of every call where the shape is wrong: 4, whatever words are passed, and nothing is changed; the check says no. */
 static void expect_wrong_shape(const struct lent *wrong) {
     struct lent t = *wrong;
     EXPECT(get(&t, string(1)) == AMZIGHROD_WRONG_SHAPE);
@@ -108,6 +112,15 @@ static void expect_wrong_shape(const struct lent *wrong) {
     EXPECT(amzighrod_reserve(WRITE(&t), 0) == AMZIGHROD_WRONG_SHAPE);
     EXPECT(!amzighrod_check(READ(&t)));
     EXPECT(unchanged(&t, wrong));
+    for (int i = 0; i < NO_VALUES; i++) {
+        struct lent junk = *wrong, before;
+        junk.key = no_values[i], before = junk;
+        EXPECT(get(&junk, no_values[i]) == AMZIGHROD_WRONG_SHAPE);
+        EXPECT(set(&junk, no_values[i], yes) == AMZIGHROD_WRONG_SHAPE);
+        EXPECT(set(&junk, string(1), no_values[i]) == AMZIGHROD_WRONG_SHAPE);
+        EXPECT(next(&junk) == AMZIGHROD_WRONG_SHAPE);
+        EXPECT(unchanged(&junk, &before));
+    }
 }
 
 static void test_wrong_lengths(void) {
@@ -156,6 +169,38 @@ static void test_refused_sets(void) {
         before = t;
         EXPECT(set(&t, calls[i].key, calls[i].v) == calls[i].refused && unchanged(&t, &before));
     }
+}
+
+/* Words that are no value's, as a key or a value: 15 before every other refusal but that of the shape, and nothing is changed. */
+static void expect_no_values(struct lent t) {
+    const struct value others[] = {string(1), string(2), string(5), integer(0), float_1480, integer(1), nil, nan_key};
+    struct lent before;
+    t.answer = string(77);
+    for (int i = 0; i < NO_VALUES; i++) {
+        const struct value junk = no_values[i];
+        t.key = junk, before = t;
+        EXPECT(get(&t, junk) == AMZIGHROD_NO_VALUE && unchanged(&t, &before));
+        EXPECT(next(&t) == AMZIGHROD_NO_VALUE && unchanged(&t, &before));
+        EXPECT(set(&t, junk, junk) == AMZIGHROD_NO_VALUE && unchanged(&t, &before));
+        for (size_t k = 0; k < sizeof others / sizeof *others; k++) {
+            EXPECT(set(&t, junk, others[k]) == AMZIGHROD_NO_VALUE && unchanged(&t, &before));
+            EXPECT(set(&t, others[k], junk) == AMZIGHROD_NO_VALUE && unchanged(&t, &before));
+        }
+    }
+}
+
+/* In a store with no room for a new key, and in one where it would take the place of a cleared one; and the words next to them are values'. */
+static void test_no_values(void) {
+    const struct value limits[] = {nil, {AMZIGHROD_BOOLEAN, 0}, yes, {AMZIGHROD_NUMBER, UINT64_MAX}, {AMZIGHROD_USERDATA, UINT64_MAX}};
+    struct lent t = full();
+    expect_no_values(t);
+    EXPECT(set(&t, string(2), nil) == AMZIGHROD_DONE);
+    expect_no_values(t);
+    for (size_t i = 0; i < sizeof limits / sizeof *limits; i++) {
+        EXPECT(get(&t, limits[i]) == AMZIGHROD_DONE && same(t.answer, nil));
+        EXPECT(set(&t, string(1), limits[i]) == AMZIGHROD_DONE && get(&t, string(1)) == AMZIGHROD_DONE && same(t.answer, limits[i]));
+    }
+    EXPECT(guarded(&t) && amzighrod_check(READ(&t)));
 }
 
 static void test_sets_and_gets(void) {
@@ -231,6 +276,7 @@ int main(void) {
     test_wrong_records();
     test_check();
     test_refused_sets();
+    test_no_values();
     test_sets_and_gets();
     test_next();
     test_length();

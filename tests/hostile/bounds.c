@@ -1,5 +1,5 @@
 /* The most words that a call reads and writes in each slice, whatever the words are: README.md has the loops that each term comes from.
-   A word that is read twice counts twice. Where the shape is wrong no word is visited. */
+   A word that is read twice counts twice. Where the shape is wrong, or words passed are no value's, no word is visited. */
 #include "hostile.h"
 
 /* The searches of a length: 63 doublings from 1 to the largest integer, that integer itself, and 63 halvings. */
@@ -14,7 +14,7 @@ static uint64_t significant_bits(uint64_t n) {
 
 static uint64_t smaller(uint64_t a, uint64_t b) { return a < b ? a : b; }
 
-void bound_of(enum call c, const struct store *s, bool right, uint64_t words[SLICES]) {
+void bound_of(enum call c, const struct store *s, bool reached, uint64_t words[SLICES]) {
     const uint64_t A = s->record[SIZE], E = s->record[COUNT], n = s->words[INDEX], room = s->words[ARRAY], entryroom = s->words[ENTRIES];
     /* after the check has counted the used words, a way through the index meets an empty one among E + 1 */
     const uint64_t way = smaller(n, E + 1);
@@ -29,5 +29,5 @@ void bound_of(enum call c, const struct store *s, bool right, uint64_t words[SLI
         [RESERVE] = {4 * E, 28 * E, 2 * E * (n + 1)},
     };
     for (int i = 0; i < SLICES; i++)
-        words[i] = right ? bounds[c][i] : 0;
+        words[i] = reached ? bounds[c][i] : 0;
 }

@@ -85,6 +85,18 @@ SET(__wrap_amzighrod_set) {
         index[in] = 0;
     return answer;
 }
+#elif FAULT == 13 /* a set takes words that are no value's */
+SET(__wrap_amzighrod_set) {
+    const bool above = valuekind > AMZIGHROD_USERDATA;
+    return __real_amzighrod_set(STORE, keykind, keypayload, above ? AMZIGHROD_USERDATA : valuekind, valuepayload, kind, payload);
+}
+#elif FAULT == 14 /* a set leaves words that are no value's */
+SET(__wrap_amzighrod_set) {
+    const uint8_t answer = __real_amzighrod_set(STORE, keykind, keypayload, valuekind, valuepayload, kind, payload);
+    if (answer == AMZIGHROD_DONE && *E)
+        entries[4 * *E - 2] = AMZIGHROD_USERDATA + 1;
+    return answer;
+}
 #elif FAULT == 10 /* too many words are visited */
 SET(__wrap_amzighrod_set) {
     const size_t visits = (2 * *E + 4) * in;

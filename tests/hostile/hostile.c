@@ -13,7 +13,7 @@
 #include <sys/time.h>
 #include <unistd.h>
 
-enum { DRAWN_CALLS = 16, WRONG = 16, LARGEST = 16384, NUMBERS = 5 };
+enum { DRAWN_CALLS = 16, WRONG = 16, LARGEST = 16384, NUMBERS = AMZIGHROD_NO_VALUE + 1 };
 
 static const char *const names[CALLS] = {"check", "fresh", "get", "set", "next", "length", "reserve"};
 
@@ -156,7 +156,16 @@ static bool may_be_sound(const struct store *s) {
     return used == s->record[COUNT];
 }
 
-/* Whether a call may answer this number where the shape is right. */
+/* The number that a call answers before it looks at a word, for the shape first and then for words passed that are no value's; else 0. */
+static uint8_t refused_unseen(enum call c, const struct store *s, const struct passed *p) {
+    if (!(c == FRESH ? right_lengths(s) : right_shape(s)))
+        return AMZIGHROD_WRONG_SHAPE;
+    if ((c == GET || c == SET || c == NEXT) && !decodes(p->key))
+        return AMZIGHROD_NO_VALUE;
+    return c == SET && !decodes(p->v) ? AMZIGHROD_NO_VALUE : 0;
+}
+
+/* Whether a call may answer this number where the shape is right and the words passed are values'. */
 static bool may_answer(enum call c, const struct store *s, struct value key, uint8_t answer) {
     switch (c) {
     case CHECK: return answer == 1 ? may_be_sound(s) : answer == 0 && !s->sound;
@@ -183,10 +192,11 @@ static bool all_zero(const struct store *s) {
 }
 
 /* What the header says of what a call leaves. Slices that are lent to be read, or are out of reach, cannot have changed. */
-static void hold(enum call c, const struct store *s, enum way way, struct value key, uint8_t answer) {
+static void hold(enum call c, const struct store *s, enum way way, const struct passed *p, uint8_t answer) {
     const bool done = c != CHECK && answer == AMZIGHROD_DONE;
+    const struct value key = p->key;
     running = c;
-    if (way == HIDDEN ? answer != (c == CHECK ? 0 : AMZIGHROD_WRONG_SHAPE) : !may_answer(c, s, key, answer))
+    if (way == HIDDEN ? answer != (c == CHECK ? 0 : refused_unseen(c, s, p)) : !may_answer(c, s, key, answer))
         failed("an answer that it has not");
     if (!outs_unchanged(done ? outs_of(c) : 0) || !beside_outs_unchanged())
         failed("a word written beside the answer, or on a refusal");
@@ -203,14 +213,13 @@ static void hold(enum call c, const struct store *s, enum way way, struct value 
 
 /* A call, and what must hold of it. */
 static uint8_t ask(enum call c, struct store *s, const struct passed *p) {
-    const bool right = c == FRESH ? right_lengths(s) : right_shape(s);
-    const enum way way = !right ? HIDDEN : writes(c) ? WRITE : READ;
+    const enum way way = refused_unseen(c, s, p) ? HIDDEN : writes(c) ? WRITE : READ;
     pass(s, p->key);
     remember_outs();
     if (way == WRITE)
         remember_slices(s);
     const uint8_t answer = call(c, s, way, p);
-    hold(c, s, way, p->key, answer);
+    hold(c, s, way, p, answer);
     tally[c][answer]++;
     if (c == CHECK && answer)
         s->sound = true; /* from here on it must stay so */
@@ -219,7 +228,7 @@ static uint8_t ask(enum call c, struct store *s, const struct passed *p) {
     fewer += c != FRESH && *out[RECORD + COUNT] < s->record[COUNT];
     larger += *out[RECORD + SIZE] > s->record[SIZE];
     take_record(s);
-    s->sound = c == FRESH || (s->sound && (c == RESERVE || answer != AMZIGHROD_DONE || (decodes(p->key) && decodes(p->v))));
+    s->sound |= c == FRESH;
     running = c;
     if (!right_shape(s))
         failed("a record of wrong shape left");
@@ -253,6 +262,8 @@ static void ask_any(struct store *s) {
     if (c == NEXT && below(2))
         p.key = last;
     ask(c, s, &p);
+    if (s->sound && writes(c))
+        ask(CHECK, s, &none);
 }
 
 static void ask_check(struct store *s) {

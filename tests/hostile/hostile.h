@@ -60,6 +60,6 @@ void build_set(struct store *s, struct value key, struct value v);
 void build_check(struct store *s);
 
 /* bounds.c */
-void bound_of(enum call c, const struct store *s, bool right, uint64_t words[SLICES]);
+void bound_of(enum call c, const struct store *s, bool reached, uint64_t words[SLICES]);
 
 #endif

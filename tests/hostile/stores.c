@@ -83,8 +83,7 @@ static struct value key_of_store(const struct store *s) {
     return (struct value){at[0], at[1]};
 }
 
-/* What is passed as a key or a value. */
-struct value any_value(const struct store *s) {
+static struct value any_words(const struct store *s) {
     switch (below(8)) {
     case 0: return (struct value){draw(), draw()};
     case 1: return (struct value){AMZIGHROD_NIL, below(4) ? 0 : draw()};
@@ -95,6 +94,12 @@ struct value any_value(const struct store *s) {
     case 6: return right_value(s);
     default: return small_value(s);
     }
+}
+
+/* What is passed as a key or a value. Words that are no value's are refused at once, so most give way to a value's. */
+struct value any_value(const struct store *s) {
+    const struct value v = any_words(s);
+    return decodes(v) || below(4) == 0 ? v : right_value(s);
 }
 
 size_t any_reserve(const struct store *s) {

@@ -14,7 +14,7 @@ use std::{error::Error, fmt, iter::FusedIterator};
 pub use calls::Record;
 pub use value::{Function, Value};
 
-/// Why a call was refused, by the paper's number. Nothing was changed.
+/// Why a call was refused, by the paper's number. Nothing was changed. The calls' 15, for words that are no value's, no [`Value`] meets.
 #[derive(Clone, Copy, Debug, PartialEq, Eq)]
 pub enum Refused {
     KeyIsNil = 1,
@@ -31,7 +31,7 @@ impl Refused {
             2 => Err(Refused::KeyIsNaN),
             3 => Err(Refused::NoRoom),
             4 => Err(Refused::WrongShape),
-            _ => unreachable!("no call answers {number}"),
+            _ => unreachable!("no call with a Value's words answers {number}"),
         }
     }
 }
@@ -162,7 +162,7 @@ impl<'a> Table<'a> {
     }
 }
 
-/// A read is refused for a wrong shape alone, and a sound store has none.
+/// A read is refused for a wrong shape or for words that are no value's: a sound store has a right one, and a [`Value`] has a value's words.
 fn read(number: u8) {
     assert_eq!(number, 0, "a read of a sound store was refused");
 }
