@@ -1,7 +1,7 @@
 -- Demand 2 on stores: whatever words meet the promises, call after call from a fresh store, the answers are the original's while there is room,
 -- and so are gets, the pairs of a walk, and the length where there is one border. Assumes nothing.
 use mathlib.Core.Path.{_≡_, refl, sym, ap, ap₂, subst, _∙_}
-use mathlib.Core.List.{List, [], _∷_}
+use mathlib.Core.List.{List, _∷_}
 use Prim.Native.Nat.{ℕ}
 use Rattle.value.specs.declared.Words.{Words}
 use Rattle.value.specs.Encoding.{Decodes}

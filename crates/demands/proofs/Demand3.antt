@@ -10,7 +10,7 @@ use Rattle.value.specs.Same.{isNil}
 use Rattle.value.proofs.Cases.{caseb, clash}
 use Rattle.key.specs.Refusals.{noValue}
 use Rattle.model.specs.Entries.{Entry}
-use Rattle.model.specs.Table.{Table, getOf}
+use Rattle.model.specs.Table.{getOf}
 use Rattle.model.specs.Calls.{setOf}
 use Rattle.model.proofs.Kept.{nil-decodes, next-decodes}
 use Rattle.walk.specs.History.{History, Throughout as ThroughHistory, begin as begins, set as sets, step as steps}

@@ -1,6 +1,6 @@
 -- The demands over the calls for C: any row of them leaves a sound store; a refused one leaves everything as it was; what sets there are in a
 -- walk are sets of the walk; and `amzighrod_next` goes through a walk as `next` does. Assumes nothing.
-use mathlib.Core.Path.{_≡_, refl, sym, ap, subst, _∙_}
+use mathlib.Core.Path.{_≡_, sym, ap, subst, _∙_}
 use mathlib.Core.List.{List}
 use mathlib.Core.Logic.{_⊎_, inl, inr}
 use Prim.Native.Nat.{ℕ}
@@ -10,22 +10,21 @@ use Rattle.value.proofs.Cases.{never}
 use Rattle.model.specs.Entries.{Entry}
 use Rattle.walk.specs.History.{May}
 use Rattle.store.specs.declared.Record.{Record}
-use Rattle.store.specs.declared.Made.{Made}
 use Rattle.store.specs.declared.Made.the-variants.{Store as Stored, No}
 use Rattle.store.specs.Store.{Slices, Store, store}
 use Rattle.store.specs.Written.{Sound}
 use Rattle.store.proofs.Unique.{fresh-made-sound}
 use Rattle.reads.specs.declared.GotWords.{GotWords}
-use Rattle.reads.specs.declared.GotWords.the-variants.{Value, No as GetNo}
+use Rattle.reads.specs.declared.GotWords.the-variants.{Value}
 use Rattle.reads.specs.declared.NextWords.{NextWords}
 use Rattle.reads.specs.declared.NextWords.the-variants.{Found, Last, NotFound, No as NextNo}
-use Rattle.reads.specs.Reads.{GetAnswers, NextAnswers}
+use Rattle.reads.specs.Reads.{NextAnswers}
 use Rattle.writes.specs.declared.SetWords.{SetWords}
 use Rattle.writes.specs.declared.SetWords.the-variants.{Done as SetDoes, No as SetNo}
 use Rattle.writes.specs.declared.Reserved.{Reserved}
 use Rattle.writes.specs.declared.Reserved.the-variants.{Done as ReserveDoes, No as ReserveNo}
 use Rattle.writes.specs.Writes.{setLeft, reserveLeft}
-use Rattle.host.specs.Host.{FreshOut, FreshGives, GetOut, GetGives, SetOut, SetGives, NextOut, NextGives, ReserveOut, ReserveGives}
+use Rattle.host.specs.Host.{FreshGives, GetOut, SetOut, SetGives, NextOut, NextGives, ReserveOut, ReserveGives}
 use Rattle.demands.specs.Walks.{Walking, set as sets, Throughout, StoreWalked}
 use Rattle.demands.specs.Hosts.{FromC, none, fresh, set, reserve, HostWalked}
 use Rattle.demands.proofs.Events.{refused-still}

@@ -1,7 +1,7 @@
 -- The rule that settles it, over the real calls: what is proved of a table's entries holds of the words of a sound store. Assumes nothing.
 use mathlib.Core.Path.{_≡_, sym, ap, subst, _∙_}
 use mathlib.Core.Bool.{true}
-use mathlib.Core.List.{List, [], _∷_}
+use mathlib.Core.List.{List}
 use Prim.Native.Nat.{ℕ, _*_, _<_}
 use native.Mathlib.Omega.{arith}
 use lib.ListN.{length, getD}
@@ -9,10 +9,10 @@ use borrow.Author.Tests.{not-true}
 use Rattle.value.specs.declared.Words.{Words}
 use Rattle.value.specs.Same.{nil}
 use Rattle.lent.specs.Lent.{valueAt}
-use Rattle.model.specs.Entries.{Entry, entry, keysOf, live, Each}
+use Rattle.model.specs.Entries.{Entry, entry, live, Each}
 use Rattle.model.specs.Table.{Table}
 use Rattle.model.specs.Calls.{Outcome}
-use Rattle.model.specs.Settles.{keyAt, KeepsPlaces, SetGrows, ReserveGrows, Settles}
+use Rattle.model.specs.Settles.{keyAt, KeepsPlaces, Settles}
 use Rattle.model.proofs.Entries.{length-tabulate, tabulate-at, tabulate-each, map-tabulate}
 use Rattle.model.proofs.Settles.{set-settles, reserve-settles}
 use Rattle.store.specs.Store.{Slices, Store, roomFor}

@@ -12,7 +12,7 @@ use Rattle.value.proofs.Cases.{caseb, iff, and-left, and-right}
 use Rattle.value.proofs.Same.{same-eq, eq-same, same-refl}
 use Rattle.model.specs.Entries.{Entry, entry, has, find, put, keep, Each}
 use Rattle.model.specs.Table.{Table}
-use Rattle.original.specs.Original.{MapKey, alive, dead, Cell, cell, Original, Addresses, isObject, matches, killed, revived, hasCell, findCell, writeCell}
+use Rattle.original.specs.Original.{MapKey, alive, Cell, cell, Original, Addresses, isObject, matches, killed, revived, hasCell, findCell, writeCell}
 
 module _ (addresses : Addresses) where
   abbrev pub cellOf : Entry → Cell

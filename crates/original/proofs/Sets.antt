@@ -23,7 +23,7 @@ use Rattle.model.specs.Calls.{writeArray, writeEntry, append}
 use Rattle.model.proofs.Entries.{updated, find-absent}
 use Rattle.model.proofs.Array.{index-integer, within-integer, outside-integer, lookup-array, lookup-within, lookup-outside, lookup-absent}
 use Rattle.model.proofs.Map.{writeArray-lookup, writeEntry-lookup, append-lookup, nil-again, rehashed-lookup, purged-lookup}
-use Rattle.original.specs.Original.{alive, Cell, cell, Original, Addresses, findCell, hasValue, mapIndex, Choice, OriginalOutcome, originalOutcome, withArray, withMap, setReserved, grownValueAt, resized, grown, originalGet, originalSet, originalReserve}
+use Rattle.original.specs.Original.{Cell, Original, Addresses, findCell, hasValue, mapIndex, Choice, OriginalOutcome, originalOutcome, withArray, withMap, setReserved, grownValueAt, resized, grown, originalGet, originalSet, originalReserve}
 use Rattle.original.proofs.Cells.{cellOf, cellsOf, originalOf, hasCell-of, findCell-of, cleared-cells, written-cells, keep-cells}
 use Rattle.original.proofs.Right.{Placed, PlacedEntry, Right, withEntries, there, right-numbered, right-array, right-write, right-append, right-purged, right-rehashed}
 

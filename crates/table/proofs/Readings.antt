@@ -20,7 +20,7 @@ use Rattle.store.specs.declared.Record.{Record}
 use Rattle.store.specs.Store.{Slices, Store, store, roomFor}
 use Rattle.store.specs.Shape.{Shaped}
 use Rattle.store.specs.Written.{Sound, tableOf}
-use Rattle.store.proofs.Sound.{sound-formed, sound-shaped}
+use Rattle.store.proofs.Sound.{sound-formed}
 use Rattle.store.proofs.Sized.{next-sized}
 use Rattle.reads.specs.declared.GotWords.{GotWords}
 use Rattle.reads.specs.declared.GotWords.the-variants.{Value as GotValue, No as GotNo}

@@ -1,5 +1,5 @@
 -- `writes::are_values` meets its contract. Assumes nothing.
-use mathlib.Core.Path.{refl, sym, _∙_}
+use mathlib.Core.Path.{sym, _∙_}
 use borrow.Author.Needs.{needs}
 use Rattle.writes.proofs.are_values.Statement.{statement}
 use Rattle.writes.proofs.are_values.Tie as tie
