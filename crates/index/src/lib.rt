@@ -1,6 +1,8 @@
 // The index of the entries (in place of the original's HashMap): a key's home, search, entries put in and taken out, and the test that an
 // index is the one got by inserting the entries in turn. Entries are lent words, four an entry: its key's two and then its value's.
 // An inner layer: a `requires` is what a right shape gives, or an answer of this crate. Of the words nothing is assumed.
+#![tactic(auto)]
+
 ghost use Rattle.std.specs.Prelude.{◌≡◌, ◌+◌, ◌*◌, ◌%◌, ◌^◌, ◌<◌, ◌≤◌, length, replicate, slice_set};
 ghost use Rattle.lent.specs.Says.{Says};
 ghost use Rattle.index.specs.Home.{multiple, mixed, home_of, next_place};
@@ -9,11 +11,11 @@ ghost use Rattle.index.specs.Search.{searched, Stands, Finds, FindsOwn, AllFound
 
 use value::Words;
 
-// 0 is empty, else an entry's position + 1. The width has these names, this and `word_bits`; its number stands again in iter's proof of
-// `Walker::next`, which is made by hand, in the program `checks`, and in what C is told (bindings/).
+// 0 is empty, else an entry's position + 1. The width has these names, this and `word_bits`; its number stands again in the program `checks`,
+// and in what C is told (bindings/).
 pub type Word = u16;
 
-#[derive(Drop)]
+#[derive(Clone, Copy)]
 pub enum Found {
     // the entry that has the key
     At(usize),

@@ -1,5 +1,7 @@
 // Keys (the original's CanonicalKey, f64_to_i64, to_array_index and highest_bit), on stored words.
 // Every public call is total: a key that has no canonical form is answered with its refusal.
+#![tactic(auto)]
+
 ghost use Rattle.std.specs.Prelude.{◌≡◌, ◌≤◌, ◌<◌, ◌^◌};
 ghost use Rattle.std.specs.Float.{binary64};
 ghost use Rattle.std.specs.Float.Ieee.{of_bits, of_fields, size};
@@ -20,21 +22,21 @@ pub const WRONG_SHAPE: u8 = 4;
 pub const NO_VALUE: u8 = 15;
 
 // A key's canonical form, or why it has none.
-#[derive(Drop)]
+#[derive(Clone, Copy)]
 pub enum CanonicalKey {
     Key(Words),
     No(u8),
 }
 
 // The array index of a canonical key.
-#[derive(Drop)]
+#[derive(Clone, Copy)]
 pub enum ArrayIndex {
     At(u64),
     Nothing,
 }
 
 // Whether a float is a whole number of size at most 2^63: its sign and its size.
-#[derive(Drop)]
+#[derive(Clone, Copy)]
 pub enum Whole {
     Is(bool, u64),
     Not,

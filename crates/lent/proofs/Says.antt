@@ -1,11 +1,10 @@
 -- What a test says, and a loop that tests every place in turn. Assumes nothing.
 use mathlib.Core.Path.{◌≡◌, refl, sym}
-use mathlib.Core.Bool.{Bool, true, false, not, true≢false}
+use mathlib.Core.Bool.{Bool, true, false, true≢false}
 use mathlib.Core.Logic.{⊎_elim}
 use Prim.Native.Nat.{ℕ, ◌+◌, ◌<◌}
 use native.Mathlib.Nat.{not-suc-le-zero, eq-or-lt_of_le}
 use native.Mathlib.Omega.{arith}
-use borrow.Author.Tests.{not-true, not-false}
 use Rattle.value.proofs.Cases.{clash, iff}
 use Rattle.lent.specs.Says.{Says}
 
@@ -24,11 +23,11 @@ pub says-one : {X : Type 0} (r r' : Bool) → Says r X → Says r' X → r ≡ r
 says-one r r' s t = iff r r' (λ e. t.whenever (s.only e)) (λ e. s.whenever (t.only e))
 
 -- what was said where code tests `!r`
-pub said-no : {X : Type 0} {r : Bool} → Says r X → not r ≡ true → X → ⊥
-said-no {r = r} s e x = clash (s.whenever x) (not-true r e)
+pub said-no : {X : Type 0} {r : Bool} → Says r X → r ≡ false → X → ⊥
+said-no s e x = clash (s.whenever x) e
 
-pub said-yes : {X : Type 0} {r : Bool} → Says r X → not r ≡ false → X
-said-yes {r = r} s e = s.only (not-false r e)
+pub said-yes : {X : Type 0} {r : Bool} → Says r X → r ≡ true → X
+said-yes s e = s.only e
 
 -- before a loop nothing is below its start; a turn adds the place that it tested
 pub none_below : (P : ℕ → Type 0) (i : ℕ) → i < 0 → P i

@@ -1,5 +1,7 @@
 // Values in lent words, two words a value: read, tested, written, and set to 0.
 // An inner layer: what is read must lie in the slice, which a right shape gives. Of the words nothing is assumed.
+#![tactic(auto)]
+
 ghost use Rattle.std.specs.Prelude.{◌≡◌, ◌+◌, ◌*◌, ◌≤◌, length, replicate};
 ghost use Rattle.value.specs.Encoding.{decodes};
 ghost use Rattle.lent.specs.Says.{Says};

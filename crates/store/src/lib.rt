@@ -1,5 +1,7 @@
 // The store: a table's lent words with its record (in place of the original's Vec and HashMap). Its shape, the check of a store that may
 // hold anything, and a fresh one. No public call assumes anything of what it is lent.
+#![tactic(auto)]
+
 ghost use Rattle.std.specs.Prelude.{◌≡◌, ◌*◌, ◌<◌, ◌≤◌, length};
 ghost use Rattle.key.specs.declared.CanonicalKey.TheVariants.{Key};
 ghost use Rattle.key.specs.Canonical.{canonical_key};
@@ -24,14 +26,14 @@ pub const ENTRY_LIMIT: usize = 32768;
 pub const INDEX_LIMIT: usize = 65536;
 
 // What a store's words do not say themselves: array size A, entry allowance M and entry count E.
-#[derive(Drop)]
+#[derive(Clone, Copy)]
 pub struct Record {
     pub size: usize,
     pub allowance: usize,
     pub count: usize,
 }
 
-#[derive(Drop)]
+#[derive(Clone, Copy)]
 pub enum Made {
     Store(Record),
     No(u8),

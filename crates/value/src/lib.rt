@@ -1,5 +1,7 @@
 // Lua values (the original's value.rs) and the two 64-bit words that store one: its kind and its payload.
 // Every call is total. A Value that decode never makes has words all the same: encode settles what it stands for.
+#![tactic(auto)]
+
 ghost use Rattle.std.specs.Prelude.{◌≡◌};
 ghost use Rattle.std.specs.Int.{w64};
 ghost use Rattle.std.proofs.Common.{of_z, to_z};
@@ -9,14 +11,14 @@ ghost use Rattle.value.specs.Encoding.{kind_of, payload_of, encoded, number_of, 
 ghost use Rattle.value.specs.Same.{same, nil as nil_words, is_nil};
 
 // Kinds 4 to 9 carry a handle of the host's.
-#[derive(Drop)]
+#[derive(Clone, Copy)]
 pub enum Function {
     Closure(u64),
     Callback(u64),
 }
 
 // An f64 keeps no NaN's bits, so a NaN has a case of its own.
-#[derive(Drop)]
+#[derive(Clone, Copy)]
 pub enum Value {
     Nil,
     Boolean(bool),
@@ -31,13 +33,13 @@ pub enum Value {
 }
 
 // A value as it is stored.
-#[derive(Drop)]
+#[derive(Clone, Copy)]
 pub struct Words {
     pub kind: u64,
     pub payload: u64,
 }
 
-#[derive(Drop)]
+#[derive(Clone, Copy)]
 pub enum Decoded {
     Value(Value),
     Undecodable,
