@@ -1,1 +1,2 @@
 // No program: the table as a definition stands in specs/, its theorems in proofs/.
+#![tactic(auto)]

@@ -18,7 +18,7 @@ use Rattle.model.specs.Length.{length_of}
 use Rattle.model.specs.Manual.{OneBorder, Lists}
 use Rattle.model.specs.Calls.{Outcome, are_values, set_of, reserve_of}
 use Rattle.model.specs.WellFormed.{Fair, WellFormed}
-use Rattle.model.proofs.Map.{set_key, set-no-key, Sets, set-sets, reserve-lookup}
+use Rattle.model.proofs.Map.{set_key_lem, set-no-key, Sets, set-sets, reserve-lookup}
 use Rattle.model.proofs.Kept.{fresh_kept, set_of-kept, reserve-kept}
 use Rattle.model.proofs.Refusals.{reserve-either}
 use Rattle.model.proofs.Next.{lists-one, next-lists}
@@ -99,7 +99,7 @@ module _ (addresses : Addresses) (room : Room) where
           → (told (set_of room t key v) ≡ said (original_set addresses c r key v)) × Together (set_of room t key v).table (original_set addresses c r key v).now
       keyed k e = elim (set-sets room t k v g.here) [
         | inl m ↦
-            let ours : Sets (lookup t) k v (set_of room t key v) = subst (Sets (lookup t) k v) (sym (set_key room t key v both k e)) m in
+            let ours : Sets (lookup t) k v (set_of room t key v) = subst (Sets (lookup t) k v) (sym (set_key_lem room t key v both k e)) m in
             let its : OriginalSets addresses (lookup u) k v (original_set addresses c r key v) =
             subst (λ (x : Original). OriginalSets addresses (lookup u) k v (original_set addresses c x key v)) (sym g.there.is) (original-sets addresses c u key k v g.there.right e (canonical-own key k e)) in (
               ap₂ was (ours.ok ∙ sym its.ok) (ours.previously ∙ sym (its.previously ∙ g.there.holds k)),
@@ -108,7 +108,7 @@ module _ (addresses : Addresses) (room : Room) where
                 there = carried addresses (λ j. ap (λ (x : Words). cond (same k j) v x) (g.there.holds j) ∙ sym (ours.now j)) its.now;
               },
             )
-        | inr p ↦ absurd (h (ap (λ (o : Outcome). o.refusal) (set_key room t key v both k e ∙ p)))
+        | inr p ↦ absurd (h (ap (λ (o : Outcome). o.refusal) (set_key_lem room t key v both k e ∙ p)))
       ]
 
   -- ---- reserve
