@@ -1,6 +1,8 @@
 // What growth decides (01, 'Growth', steps 1, 2 and 4): the candidates' class counts, the array's size by them, and the allowance
 // (the original's optimal_size in RawTable::set). An inner layer: a `requires` is what a right shape gives, or an answer of
 // this crate. Of the words nothing is assumed.
+#![tactic(auto)]
+
 ghost use Rattle.std.specs.Prelude.{◌≡◌, List, [], ℕ, ◌+◌, ◌-◌, ◌*◌, ◌^◌, ◌<◌, ◌≤◌, length, get_or, set};
 ghost use Rattle.key.specs.Canonical.{array_index};
 ghost use Rattle.lent.specs.Lent.{value_at};

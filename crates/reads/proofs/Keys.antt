@@ -13,7 +13,7 @@ use Rattle.index.specs.declared.Found.{Found}
 use Rattle.index.specs.declared.Found.TheVariants.{At, Absent, Full}
 use Rattle.index.specs.Index.{Right}
 use Rattle.index.specs.Search.{Stands, Finds}
-use Rattle.model.specs.Entries.{Entry, distinct, NextValue, not_found, first, from}
+use Rattle.model.specs.Entries.{Entry, NextValue, not_found, first, from}
 use Rattle.model.specs.Table.{offset, within, place_of, array_pairs, pairs, lookup}
 use Rattle.model.specs.Growth.{tabulate}
 use Rattle.model.proofs.Entries.{length-tabulate, tabulate-at}

@@ -1,5 +1,7 @@
 // The calls that read (the original's RawTable::get, next and length), on stored words. A public call tests the shape first and assumes
 // nothing; the functions beneath are lent a store of right shape. Of the words nothing is assumed.
+#![tactic(auto)]
+
 ghost use Rattle.std.specs.Prelude.{◌≡◌, ◌++◌, ◌-◌, ◌*◌, ◌^◌, ◌<◌, ◌≤◌, length as len};
 ghost use Rattle.key.specs.Canonical.{integer, largest};
 ghost use Rattle.model.specs.Entries.{has, first};
@@ -17,14 +19,14 @@ use key::CanonicalKey;
 use store::Record;
 use value::Words;
 
-#[derive(Drop)]
+#[derive(Clone, Copy)]
 pub enum GotWords {
     Value(Words),
     No(u8),
 }
 
 // The original's NextValue, in words.
-#[derive(Drop)]
+#[derive(Clone, Copy)]
 pub enum NextWords {
     Found(Words, Words),
     Last,
@@ -32,7 +34,7 @@ pub enum NextWords {
     No(u8),
 }
 
-#[derive(Drop)]
+#[derive(Clone, Copy)]
 pub enum Measured {
     Length(u64),
     No(u8),

@@ -18,7 +18,6 @@ use Rattle.model.specs.Entries.{Entry, entry, keep, live, Each}
 use Rattle.model.specs.Table.{within, place_of}
 use Rattle.model.specs.Growth.{stays}
 use Rattle.model.proofs.Entries.{keep_snoc, keep_all, each-tabulate, tabulate-snoc, tabulate-cong}
-use Rattle.model.proofs.Array.{inside}
 use Rattle.store.specs.Written.{entry_at, entries_in}
 use Rattle.rehash.specs.Rehash.{staying_in, StaysTo, Surveyed, sent, moved, Compacted}
 

@@ -1,6 +1,8 @@
 // Growth's third step, and reserve's (01, 'Growth', step 3): cleared entries are dropped, those with an index below the new size go to the
 // array, the others keep their order; the freed words are set to 0, and the index is taken back and placed again from the first entry that
 // goes. An inner layer: a `requires` is what a right shape gives, or an answer of this crate. Of the words nothing is assumed.
+#![tactic(auto)]
+
 ghost use Rattle.std.specs.Prelude.{◌≡◌, ◌+◌, ◌*◌, ◌/◌, ◌≤◌, length};
 ghost use Rattle.model.specs.Growth.{stays as staying};
 ghost use Rattle.store.specs.Store.{store_of};
@@ -12,7 +14,7 @@ use index::Word;
 use store::Record;
 
 // How many entries stay, and the first that does not.
-#[derive(Drop)]
+#[derive(Clone, Copy)]
 pub struct Staying {
     pub number: usize,
     pub first: usize,

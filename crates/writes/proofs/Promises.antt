@@ -14,7 +14,7 @@ use Rattle.key.proofs.Own.{no_key}
 use Rattle.lent.specs.Lent.{WordSized}
 use Rattle.model.specs.Calls.{Outcome, refuse, are_values}
 use Rattle.model.specs.WellFormed.{WellFormed}
-use Rattle.model.proofs.Map.{set-no-value, set_key, set-no-key}
+use Rattle.model.proofs.Map.{set-no-value, set_key_lem, set-no-key}
 use Rattle.model.proofs.Kept.{set_of-kept}
 use Rattle.store.specs.declared.Record.{Record}
 use Rattle.store.specs.Store.{Slices, Store, lengths_of, room_for}
@@ -84,7 +84,7 @@ module _ (s : Store) (h : Shaped s) (key v : Words) (d : are_values key v ≡ tr
       let same = slices-left s.sizes after r in (
         numbered r done.0,
         changed s (set_outcome s key v) (SetNumbers key v) (set_left s.sizes after r) h (rw (d, e) (room-only s.sizes after r done.0)) (λ S. set_of-kept (room_for s) (table_of s) key v (sound-formed s S))
-            (subst (λ (o : Outcome). Does s o (set_left s.sizes after r)) (sym (set_key (room_for s) (table_of s) key v d k e)) done.1)
+            (subst (λ (o : Outcome). Does s o (set_left s.sizes after r)) (sym (set_key_lem (room_for s) (table_of s) key v d k e)) done.1)
             (subst (λ (l : Slices). WordSized l.array) same a)
             (subst (λ (l : Slices). WordSized l.entries) same w),
       )

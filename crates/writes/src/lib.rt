@@ -1,6 +1,8 @@
 // The calls that write (the original's RawTable::set with its growth, and reserve_map), on stored words. A public call tests the shape first
 // and assumes nothing; the functions beneath are lent a store of right shape. Of the words nothing is assumed. Every refusal is decided before
 // the first word is written.
+#![tactic(auto)]
+
 ghost use Rattle.std.specs.Prelude.{◌≡◌, true, ◌+◌, ◌*◌, ◌/◌, ◌^◌, ◌<◌, ◌≤◌, max, length, set};
 ghost use Rattle.lent.specs.Lent.{put_entry};
 ghost use Rattle.index.specs.Index.{word_bits};
@@ -17,14 +19,14 @@ use key::CanonicalKey;
 use store::Record;
 use value::Words;
 
-#[derive(Drop)]
+#[derive(Clone, Copy)]
 pub enum SetWords {
     // the previous value, and the record after the call
     Done(Words, Record),
     No(u8),
 }
 
-#[derive(Drop)]
+#[derive(Clone, Copy)]
 pub enum Reserved {
     Done(Record),
     No(u8),
