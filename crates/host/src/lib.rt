@@ -1,6 +1,7 @@
-// The calls on words for a host in C or Rust: slices are a pointer and a length, the record is three numbers, an answer is the paper's number,
-// and what else is answered is written through the pointers that the host passes. A refusal writes nothing. Every call is total.
-// bindings/c/amzighrod.h says what each argument is.
+// The calls on words for a host in C or Rust: the record is three numbers, an answer is the paper's number, and what else is answered is written
+// through the references that the host passes. A refusal writes nothing. Every call is total. host_c exports them to C, under the same names.
+#![tactic(auto)]
+
 ghost use Rattle.std.specs.Prelude.{◌≡◌};
 ghost use Rattle.value.specs.Encoding.{words};
 ghost use Rattle.model.specs.Entries.{entry};
@@ -34,8 +35,7 @@ fn sizes_of(size: usize, allowance: usize, count: usize) -> Record
     }
 }
 
-#[unsafe(no_mangle)]
-pub extern "C" fn amzighrod_check(
+pub fn amzighrod_check(
     array: &[u64],
     entries: &[u64],
     index: &[Word],
@@ -48,8 +48,7 @@ pub extern "C" fn amzighrod_check(
     store::check(array, entries, index, sizes_of(size, allowance, count))
 }
 
-#[unsafe(no_mangle)]
-pub extern "C" fn amzighrod_fresh(
+pub fn amzighrod_fresh(
     array: &mut [u64],
     entries: &mut [u64],
     index: &mut [Word],
@@ -70,8 +69,7 @@ pub extern "C" fn amzighrod_fresh(
     }
 }
 
-#[unsafe(no_mangle)]
-pub extern "C" fn amzighrod_get(
+pub fn amzighrod_get(
     array: &[u64],
     entries: &[u64],
     index: &[Word],
@@ -96,8 +94,7 @@ pub extern "C" fn amzighrod_get(
     }
 }
 
-#[unsafe(no_mangle)]
-pub extern "C" fn amzighrod_set(
+pub fn amzighrod_set(
     array: &mut [u64],
     entries: &mut [u64],
     index: &mut [Word],
@@ -136,8 +133,7 @@ pub extern "C" fn amzighrod_set(
 }
 
 // 0 and the pair after the key, which is written over the key; 1 for Last and 2 for NotFound, as in a trace.
-#[unsafe(no_mangle)]
-pub extern "C" fn amzighrod_next(
+pub fn amzighrod_next(
     array: &[u64],
     entries: &[u64],
     index: &[Word],
@@ -166,8 +162,7 @@ pub extern "C" fn amzighrod_next(
     }
 }
 
-#[unsafe(no_mangle)]
-pub extern "C" fn amzighrod_length(
+pub fn amzighrod_length(
     array: &[u64],
     entries: &[u64],
     index: &[Word],
@@ -187,8 +182,7 @@ pub extern "C" fn amzighrod_length(
     }
 }
 
-#[unsafe(no_mangle)]
-pub extern "C" fn amzighrod_reserve(
+pub fn amzighrod_reserve(
     array: &mut [u64],
     entries: &mut [u64],
     index: &mut [Word],

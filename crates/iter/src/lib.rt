@@ -1,4 +1,6 @@
 // The walker (the original's Iter): what a walk keeps between its steps, lent to each step and advanced in place. Every call is total.
+#![tactic(auto)]
+
 ghost use Rattle.std.specs.Prelude.{◌≡◌};
 ghost use Rattle.store.specs.Store.{store_of};
 ghost use Rattle.iter.specs.Walker.{start, ended, stepped, WalkerSteps};
@@ -8,21 +10,21 @@ use store::Record;
 use table::NextValue;
 use value::Value;
 
-#[derive(Drop)]
+#[derive(Clone, Copy)]
 pub struct Walker {
     // the key last handed out, Nil before the first
     pub key: Value,
     pub done: bool,
 }
 
-#[derive(Drop)]
+#[derive(Clone, Copy)]
 pub enum WalkerAnswer {
     Pair(Value, Value),
     End,
     No(u8),
 }
 
-#[derive(Drop)]
+#[derive(Clone, Copy)]
 pub struct Stepped {
     pub walker: Walker,
     pub answer: WalkerAnswer,

@@ -1,5 +1,7 @@
 // The calls with Values in and out (the original's RawTable): the words of what is passed go to the calls on words, and what they answer is
 // read as a Value. `length` and `reserve` take and answer no Value: reads::length and writes::reserve. Every call is total.
+#![tactic(auto)]
+
 ghost use Rattle.store.specs.Store.{slices, store_of};
 ghost use Rattle.table.specs.Values.{GetValue, SetValue, NextOfValue};
 
@@ -9,20 +11,20 @@ use store::Record;
 use value::Value;
 use writes::SetWords;
 
-#[derive(Drop)]
+#[derive(Clone, Copy)]
 pub enum Got {
     Value(Value),
     No(u8),
 }
 
-#[derive(Drop)]
+#[derive(Clone, Copy)]
 pub enum Stored {
     // the previous value, and the record after the call
     Done(Value, Record),
     No(u8),
 }
 
-#[derive(Drop)]
+#[derive(Clone, Copy)]
 pub enum NextValue {
     Found(Value, Value),
     Last,
