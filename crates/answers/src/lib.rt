@@ -1,4 +1,6 @@
 // A trace's request answered on a store (01, 'Trace program'): each by its call. Every function is total.
+#![tactic(auto)]
+
 ghost use Rattle.store.specs.Store.{store_of};
 ghost use Rattle.records.specs.declared.Request.TheVariants.{Get, Set, Length, Next, Reserve};
 ghost use Rattle.answers.specs.Answers.{Answers};
@@ -11,7 +13,7 @@ use store::Record;
 use value::Words;
 use writes::{Reserved, SetWords};
 
-#[derive(Drop)]
+#[derive(Clone, Copy)]
 pub struct Answered {
     pub reply: Reply,
     pub sizes: Record,

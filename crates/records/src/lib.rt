@@ -1,12 +1,14 @@
 // The records of a trace, read off bytes (01, 'Trace program'): numbers and values, little-endian, and the request at the start of the
 // input, or the fault there. Nothing is assumed of the bytes; a number or a value must lie in the slice.
+#![tactic(auto)]
+
 ghost use Rattle.std.specs.Prelude.{◌≡◌, ◌+◌, ◌≤◌, length, take, drop};
 ghost use Rattle.records.specs.Bytes.{number, value_in};
 ghost use Rattle.records.specs.Requests.{record_size, is_whole, body_length, one_value, two_values, request_in, body_reading, reading};
 
 use value::Words;
 
-#[derive(Drop)]
+#[derive(Clone, Copy)]
 pub enum Request {
     Get(Words),
     Set(Words, Words),
@@ -15,7 +17,7 @@ pub enum Request {
     Reserve(u64),
 }
 
-#[derive(Drop)]
+#[derive(Clone, Copy)]
 pub enum Reading {
     // the input has ended
     End,

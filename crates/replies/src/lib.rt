@@ -1,11 +1,13 @@
 // The replies of a trace, written as bytes (01, 'Trace program'). An inner layer: there must be room for what is written.
+#![tactic(auto)]
+
 ghost use Rattle.std.specs.Prelude.{◌++◌, ◌+◌, ◌≤◌, length};
 ghost use Rattle.records.specs.Bytes.{little_endian, value_bytes, head_bytes, framed};
 ghost use Rattle.replies.specs.Replies.{Appends, reply_bytes, longest};
 
 use value::Words;
 
-#[derive(Drop)]
+#[derive(Clone, Copy)]
 pub enum Reply {
     Got(Words),
     // the refusal number and the previous value

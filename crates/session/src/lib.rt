@@ -1,5 +1,7 @@
 // A trace's input that has come so far, taken record by record (01, 'Trace program'): each request answered on the store, its reply written
 // after the ones before. `serve` assumes nothing; `serve_record` asks for room, and `keep` for places in its slice.
+#![tactic(auto)]
+
 ghost use Rattle.std.specs.Prelude.{◌≡◌, ◌+◌, ◌-◌, ◌≤◌, length, take, drop};
 ghost use Rattle.store.specs.Store.{slices, store_of};
 ghost use Rattle.replies.specs.Replies.{longest};
@@ -19,7 +21,7 @@ const ENTRIES: usize = 2048;
 const INDEX: usize = 1024;
 
 // What was taken of the input and made of output, and whether the trace has ended.
-#[derive(Drop)]
+#[derive(Clone, Copy)]
 pub struct Progress {
     pub sizes: Record,
     pub taken: usize,
