@@ -1,6 +1,8 @@
 // The calls that a record of `limits` can ask for: how a call stands in words; those with Values, between the words of the input and those
 // that are shown; a whole walk; a row of sets; and the digest of all lent words. What `reads`, `writes` and `store` take as it is, is
 // called there. Of the words nothing is assumed.
+#![tactic(auto)]
+
 ghost use Rattle.std.specs.Prelude.{◌+◌, ◌^◌, ◌<◌, ◌≤◌, length};
 
 use index::Word;
@@ -14,7 +16,7 @@ use writes::SetWords;
 pub const FIELDS: usize = 5;
 
 // A record of the input: the kind of call, and what is passed to it.
-#[derive(Drop)]
+#[derive(Clone, Copy)]
 pub struct Call {
     pub kind: u64,
     pub a: u64,
@@ -24,7 +26,7 @@ pub struct Call {
 }
 
 // What a whole walk gave.
-#[derive(Drop)]
+#[derive(Clone, Copy)]
 pub enum WholeWalk {
     // how many pairs, and their digest
     Pairs(u64, u64),
@@ -33,7 +35,7 @@ pub enum WholeWalk {
 }
 
 // What a row of sets gave: the refusal number of the last, and the record after it.
-#[derive(Drop)]
+#[derive(Clone, Copy)]
 pub struct Filled {
     pub refusal: u8,
     pub sizes: Record,

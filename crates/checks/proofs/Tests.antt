@@ -1,6 +1,6 @@
 -- A loop that tests each word of a slice in turn, and three tests in one. Over words of any width. Assumes nothing.
 use mathlib.Core.Path.{◌≡◌, sym, ◌∙◌}
-use mathlib.Core.Bool.{Bool, not, true, false}
+use mathlib.Core.Bool.{Bool, true, false}
 use mathlib.Core.List.{List}
 use Prim.Native.Nat.{ℕ, ◌+◌, ◌≤◌, ◌<◌, zero-le}
 use native.Mathlib.Omega.{arith}
@@ -32,5 +32,5 @@ pub zeros-said : (ws : List ℕ) {r : Bool} → Says r (Holds (λ _. 0) (length 
 zeros-said ws = says_same (λ all i g l. all i (omega arith)) (λ all i l. all i zero-le (omega arith))
 
 -- after two tests that said yes, the third says for all
-pub all_three : {X Y Z : Type 0} {a b r : Bool} → Says a X → not a ≡ false → Says b Y → not b ≡ false → Says r Z → Says r (X × Y × Z)
+pub all_three : {X Y Z : Type 0} {a b r : Bool} → Says a X → a ≡ true → Says b Y → b ≡ true → Says r Z → Says r (X × Y × Z)
 all_three s e t f u = says_same (λ z. (said-yes s e, said-yes t f, z)) (λ all. all.2) u

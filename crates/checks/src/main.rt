@@ -1,13 +1,16 @@
 // Reads records of little-endian 64-bit words and writes a line for each: of a store, whether the check says that it is sound; of three
-// lengths, what `fresh` does in slices of such lengths. What the lines must be is worked out apart from this code: tests/checks.
-ghost use Rattle.std.specs.Prelude.{◌≡◌, ◌+◌, ◌%◌, ◌<◌, ◌≤◌, min, length, get_or};
+// lengths, what `fresh` does in slices of such lengths. What the lines must be is worked out apart from this code: tests/checks. An error is
+// that of a write, and ends the run.
+#![tactic(auto)]
+
+ghost use Rattle.std.specs.Prelude.{◌≡◌, ◌+◌, ◌%◌, ◌<◌, ◌≤◌, min, length, get_or, IfOk};
 ghost use Rattle.lent.specs.Lent.{ZeroFrom};
 ghost use Rattle.lent.specs.Says.{Says};
 ghost use Rattle.console.specs.Input.{word_room, Holds};
 ghost use Rattle.checks.specs.Marks.{mark_of, Marked};
 
 use index::Word;
-use libc::STDOUT_FILENO;
+use std::io;
 use store::{Made, Record};
 
 // An index has 16-bit words, and its words in the input are below 2^16.
@@ -102,30 +105,42 @@ fn are_unchanged(array: &[u64], entries: &[u64], index: &[Word]) -> bool
     is_index_marked(index)
 }
 
-fn show_made(array: &[u64], entries: &[u64], index: &[Word], sizes: Record) {
+fn show_made(
+    rt: &impl Print,
+    array: &[u64],
+    entries: &[u64],
+    index: &[Word],
+    sizes: Record,
+) -> io::Result<()> {
     if are_zero(array, entries, index) {
-        io::write_all(STDOUT_FILENO, b"fresh 0 zero");
+        print!(rt; "fresh 0 zero")?;
     } else {
-        io::write_all(STDOUT_FILENO, b"fresh 0 not zero");
+        print!(rt; "fresh 0 not zero")?;
     }
-    console::show_sizes(sizes);
-    io::write_all(STDOUT_FILENO, b" ");
-    console::show_check(array, entries, index, sizes);
+    console::show_sizes(rt, sizes)?;
+    print!(rt; " ")?;
+    console::show_check(rt, array, entries, index, sizes)
 }
 
 // The check is shown zeros there, so that nothing but the lengths is at fault.
-fn show_refused(array: &mut [u64], entries: &mut [u64], index: &mut [Word], refusal: u8) {
-    io::write_all(STDOUT_FILENO, b"fresh");
-    console::show_number(refusal as u64);
+fn show_refused(
+    rt: &impl Print,
+    array: &mut [u64],
+    entries: &mut [u64],
+    index: &mut [Word],
+    refusal: u8,
+) -> io::Result<()> {
+    print!(rt; "fresh {refusal}")?;
     if are_unchanged(array, entries, index) {
-        io::write_all(STDOUT_FILENO, b" unchanged ");
+        print!(rt; " unchanged ")?;
     } else {
-        io::write_all(STDOUT_FILENO, b" changed ");
+        print!(rt; " changed ")?;
     }
     lent::clear(array);
     lent::clear(entries);
     index::clear(index);
     console::show_check(
+        rt,
         array,
         entries,
         index,
@@ -134,62 +149,68 @@ fn show_refused(array: &mut [u64], entries: &mut [u64], index: &mut [Word], refu
             allowance: 0,
             count: 0,
         },
-    );
+    )
 }
 
-fn show_fresh(array: &mut [u64], entries: &mut [u64], index: &mut [Word]) {
+fn show_fresh(
+    rt: &impl Print,
+    array: &mut [u64],
+    entries: &mut [u64],
+    index: &mut [Word],
+) -> io::Result<()> {
     mark_words(array);
     mark_words(entries);
     mark_index(index);
     match store::fresh(array, entries, index) {
-        Made::Store(sizes) => show_made(array, entries, index, sizes),
-        Made::No(refusal) => show_refused(array, entries, index, refusal),
+        Made::Store(sizes) => show_made(rt, array, entries, index, sizes),
+        Made::No(refusal) => show_refused(rt, array, entries, index, refusal),
     }
 }
 
 // Of a part with a start, as `0..`, the length is known; of one without, it is to be proved.
-fn fresh_in_room(array: usize, entries: usize, index: usize)
+fn fresh_in_room(rt: &impl Print, array: usize, entries: usize, index: usize) -> io::Result<()>
     requires { (array ≤ word_room) × (entries ≤ word_room) × (index ≤ word_room) }
 {
     let mut array_words = console::word_room();
     let mut entry_words = console::word_room();
     let mut index_words = console::index_room();
     show_fresh(
+        rt,
         &mut array_words[0..array],
         &mut entry_words[0..entries],
         &mut index_words[0..index],
-    );
+    )
 }
 
-fn fresh_of(array: usize, entries: usize, index: usize) {
+fn fresh_of(rt: &impl Print, array: usize, entries: usize, index: usize) -> io::Result<()> {
     if console::ROOM < array || console::ROOM < entries || console::ROOM < index {
-        io::write_all(STDOUT_FILENO, b"fresh too long\n");
-        return;
+        return println!(rt; "fresh too long");
     }
-    fresh_in_room(array, entries, index);
+    fresh_in_room(rt, array, entries, index)
 }
 
 // Three lengths. As for each kind of record, the answer is where the record ends.
-fn fresh_record(words: &[u64], at: usize) -> usize
+fn fresh_record(rt: &impl Print, words: &[u64], at: usize) -> io::Result<usize>
     requires { at ≤ length words.now }
-    ensures { (at ≤ result) × (result ≤ length words.now) }
+    ensures { IfOk result (λ end. (at ≤ end) × (end ≤ length words.now)) }
 {
     if words.len() - at < 3 {
-        return console::cut(words);
+        return console::cut(rt, words);
     }
     fresh_of(
+        rt,
         words[at] as usize,
         words[at + 1] as usize,
         words[at + 2] as usize,
-    );
-    at + 3
+    )?;
+    Ok(at + 3)
 }
 
 // Where so many words from a place on end: with the input, where it has fewer.
 fn end_of(words: &[u64], at: usize, count: u64) -> usize
     requires { at ≤ length words.now }
-    ensures lower_bound { (at ≤ result) × (result ≤ length words.now) }
-    ensures value { result ≡ min (at + count) (length words.now) }
+    ensures within { (at ≤ result) × (result ≤ length words.now) }
+    ensures sum { result ≡ min (at + count) (length words.now) }
 {
     if ((words.len() - at) as u64) < count {
         return words.len();
@@ -197,34 +218,49 @@ fn end_of(words: &[u64], at: usize, count: u64) -> usize
     at + count as usize
 }
 
-fn check_of(array: &[u64], entries: &[u64], index: &[u64], sizes: Record)
+fn check_of(
+    rt: &impl Print,
+    array: &[u64],
+    entries: &[u64],
+    index: &[u64],
+    sizes: Record,
+) -> io::Result<()>
     requires { length index.now ≤ word_room }
 {
     let mut index_words = console::index_room();
     read_index(index, &mut index_words);
     let n = index.len();
-    console::show_check(array, entries, &index_words[0..n], sizes);
+    console::show_check(rt, array, entries, &index_words[0..n], sizes)
 }
 
 // The places where the words of the three slices begin, and where they end.
-fn check_at(words: &[u64], array: usize, entries: usize, index: usize, end: usize, sizes: Record)
+fn check_at(
+    rt: &impl Print,
+    words: &[u64],
+    array: usize,
+    entries: usize,
+    index: usize,
+    end: usize,
+    sizes: Record,
+) -> io::Result<()>
     requires { (array ≤ entries) × (entries ≤ index) × (index ≤ end) × (end ≤ length words.now) × (length words.now ≤ word_room) }
 {
     check_of(
+        rt,
         &words[array..entries],
         &words[entries..index],
         &words[index..end],
         sizes,
-    );
+    )
 }
 
 // Three lengths, the record's three numbers, and then the words of the three slices.
-fn check_record(words: &[u64], at: usize) -> usize
+fn check_record(rt: &impl Print, words: &[u64], at: usize) -> io::Result<usize>
     requires { (at ≤ length words.now) × (length words.now ≤ word_room) }
-    ensures { (at ≤ result) × (result ≤ length words.now) }
+    ensures { IfOk result (λ end. (at ≤ end) × (end ≤ length words.now)) }
 {
     if words.len() - at < 6 {
-        return console::cut(words);
+        return console::cut(rt, words);
     }
     let array = at + 6;
     let entries = end_of(words, array, words[at]);
@@ -234,45 +270,40 @@ fn check_record(words: &[u64], at: usize) -> usize
         || ((index - entries) as u64) < words[at + 1]
         || ((end - index) as u64) < words[at + 2]
     {
-        return console::cut(words);
+        return console::cut(rt, words);
     }
-    check_at(
-        words,
-        array,
-        entries,
-        index,
-        end,
-        console::sizes_at(words, at + 3),
-    );
-    end
+    let sizes = console::sizes_at(words, at + 3);
+    check_at(rt, words, array, entries, index, end, sizes)?;
+    Ok(end)
 }
 
 // A record is its kind and what belongs to it; of an unknown kind, the kind alone.
-fn record_at(words: &[u64], at: usize) -> usize
+fn record_at(rt: &impl Print, words: &[u64], at: usize) -> io::Result<usize>
     requires { (at < length words.now) × (length words.now ≤ word_room) }
-    ensures { (at < result) × (result ≤ length words.now) }
+    ensures { IfOk result (λ end. (at < end) × (end ≤ length words.now)) }
 {
     match words[at] {
-        1 => check_record(words, at + 1),
-        2 => fresh_record(words, at + 1),
+        1 => check_record(rt, words, at + 1),
+        2 => fresh_record(rt, words, at + 1),
         _ => {
-            io::write_all(STDOUT_FILENO, b"unknown\n");
-            at + 1
+            println!(rt; "unknown")?;
+            Ok(at + 1)
         }
     }
 }
 
-fn run(words: &[u64])
+fn run(rt: &impl Print, words: &[u64]) -> io::Result<()>
     requires { length words.now ≤ word_room }
 {
     let mut at = 0usize;
     while at < words.len() {
-        at = record_at(words, at);
+        at = record_at(rt, words, at)?;
     }
+    Ok(())
 }
 
-fn main() {
+fn main(rt: HostRuntime) -> io::Result<()> {
     let mut words = console::word_room();
-    let count = console::read_input(&mut words);
-    run(&words[0..count]);
+    let count = console::read_input(&rt, &mut words)?;
+    run(&rt, &words[0..count])
 }

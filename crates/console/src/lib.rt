@@ -1,9 +1,13 @@
 // What the programs over stores share: room for input and for slices, the little-endian words of the input, and what they write of a store.
-ghost use Rattle.std.specs.Prelude.{◌≡◌, ◌+◌, ◌*◌, ◌/◌, ◌≤◌, length};
+// An error is that of a write.
+#![tactic(auto)]
+
+ghost use Rattle.std.specs.Prelude.{◌≡◌, ◌+◌, ◌*◌, ◌/◌, ◌≤◌, length, IfOk, OnErr};
 ghost use Rattle.console.specs.Input.{byte_room, word_room, word_at, Holds, sizes_at};
 
 use index::Word;
-use libc::{STDIN_FILENO, STDOUT_FILENO};
+use std::io;
+use std::io::Read;
 use store::Record;
 
 // Room for bytes of input; and for words of a slice, past the limits of lent room and past what the input can hold. The same numbers
@@ -43,31 +47,50 @@ fn read_words(bytes: &[u8], words: &mut [u64]) -> usize
     n
 }
 
+// Reads until the room is full, the input ends or a read fails, and answers how many bytes came.
+pub fn read_full<R: Read>(input: &mut R, room: &mut [u8]) -> usize
+    ensures { result ≤ length room.new }
+{
+    let mut done = 0;
+    while done < room.len() {
+        let n = match input.read(&mut room[done..]) {
+            Ok(n) => n,
+            Err(_) => 0,
+        };
+        if n == 0 {
+            break;
+        }
+        done += n;
+    }
+    done
+}
+
 // Standard input as words, and how many there are. Input that there is no room for, or of no whole number of words, is told, and counts as
-// empty.
-pub fn read_input(words: &mut [u64]) -> usize
+// empty. An error is that of a write, and leaves the words as they were.
+pub fn read_input(rt: &(impl Input + Print), words: &mut [u64]) -> io::Result<usize>
     requires { byte_room ≤ 8 * length words.old }
-    ensures { result ≤ length words.old }
+    ensures ok { IfOk result (λ n. n ≤ length words.old) }
+    ensures err { OnErr result (words.new ≡ words.old) }
 {
     let mut bytes = byte_room();
-    let n = io::read_full(STDIN_FILENO, &mut bytes);
+    let n = read_full(&mut rt.reader(), &mut bytes);
     if n == BYTES {
-        io::write_all(STDOUT_FILENO, b"too long\n");
-        return 0;
+        println!(rt; "too long")?;
+        return Ok(0);
     }
     if n % 8 != 0 {
-        io::write_all(STDOUT_FILENO, b"cut\n");
-        return 0;
+        println!(rt; "cut")?;
+        return Ok(0);
     }
-    read_words(&bytes[..n], words)
+    Ok(read_words(&bytes[..n], words))
 }
 
 // Input that ends within a record ends the run.
-pub fn cut(words: &[u64]) -> usize
-    ensures { result ≡ length words.now }
+pub fn cut(rt: &impl Print, words: &[u64]) -> io::Result<usize>
+    ensures { IfOk result (λ n. n ≡ length words.now) }
 {
-    io::write_all(STDOUT_FILENO, b"cut\n");
-    words.len()
+    println!(rt; "cut")?;
+    Ok(words.len())
 }
 
 pub fn sizes_at(words: &[u64], at: usize) -> Record
@@ -81,23 +104,28 @@ pub fn sizes_at(words: &[u64], at: usize) -> Record
     }
 }
 
-pub fn show_number(n: u64) {
-    io::write_all(STDOUT_FILENO, b" ");
-    io::print_decimal(STDOUT_FILENO, n);
+pub fn show_number(rt: &impl Print, n: u64) -> io::Result<()> {
+    print!(rt; " {n}")
 }
 
 // A, M and E.
-pub fn show_sizes(sizes: Record) {
-    show_number(sizes.size as u64);
-    show_number(sizes.allowance as u64);
-    show_number(sizes.count as u64);
+pub fn show_sizes(rt: &impl Print, sizes: Record) -> io::Result<()> {
+    show_number(rt, sizes.size as u64)?;
+    show_number(rt, sizes.allowance as u64)?;
+    show_number(rt, sizes.count as u64)
 }
 
 // What the check says, which ends the line.
-pub fn show_check(array: &[u64], entries: &[u64], index: &[Word], sizes: Record) {
+pub fn show_check(
+    rt: &impl Print,
+    array: &[u64],
+    entries: &[u64],
+    index: &[Word],
+    sizes: Record,
+) -> io::Result<()> {
     if store::check(array, entries, index, sizes) {
-        io::write_all(STDOUT_FILENO, b"sound\n");
+        println!(rt; "sound")
     } else {
-        io::write_all(STDOUT_FILENO, b"unsound\n");
+        println!(rt; "unsound")
     }
 }

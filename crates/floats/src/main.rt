@@ -1,7 +1,10 @@
 // Puts float bit patterns through the canonical key, and writes a line for each: the pattern, its key or why it has none, the key's
-// array index, and that index's class. What the lines must be is worked out apart from this code: tests/floats.
+// array index, and that index's class. What the lines must be is worked out apart from this code: tests/floats. An error is that of a write,
+// and ends the run.
+#![tactic(auto)]
+
 use key::{ArrayIndex, CanonicalKey};
-use libc::STDOUT_FILENO;
+use std::io;
 use value::Words;
 
 const PATTERNS: [u64; 77] = [
@@ -94,56 +97,42 @@ const PATTERNS: [u64; 77] = [
     0xffff_ffff_ffff_ffff,
 ];
 
-fn show_index(key: Words) {
+fn show_index(rt: &impl Print, key: Words) -> io::Result<()> {
     match key::array_index(key) {
         ArrayIndex::At(index) => {
-            io::write_all(STDOUT_FILENO, b" index ");
-            io::print_hex(STDOUT_FILENO, index, 16);
-            io::write_all(STDOUT_FILENO, b" class ");
-            io::print_decimal(STDOUT_FILENO, key::highest_bit(index) as u64);
+            let class = key::highest_bit(index);
+            print!(rt; " index {index:016x} class {class}")
         }
-        ArrayIndex::Nothing => {
-            io::write_all(STDOUT_FILENO, b" index none");
-        }
+        ArrayIndex::Nothing => print!(rt; " index none"),
     }
 }
 
-fn show_key(key: Words) {
-    let kind = key.kind;
-    match kind {
-        2 => {
-            io::write_all(STDOUT_FILENO, b" Integer ");
-        }
-        3 => {
-            io::write_all(STDOUT_FILENO, b" Number ");
-        }
-        _ => {
-            io::write_all(STDOUT_FILENO, b" neither ");
-        }
-    }
-    io::print_hex(STDOUT_FILENO, key.payload, 16);
-    show_index(key);
+fn show_key(rt: &impl Print, key: Words) -> io::Result<()> {
+    let kind = match key.kind {
+        2 => "Integer",
+        3 => "Number",
+        _ => "neither",
+    };
+    let payload = key.payload;
+    print!(rt; " {kind} {payload:016x}")?;
+    show_index(rt, key)
 }
 
-fn show(pattern: u64) {
-    io::print_hex(STDOUT_FILENO, pattern, 16);
+fn show(rt: &impl Print, pattern: u64) -> io::Result<()> {
+    print!(rt; "{pattern:016x}")?;
     match key::canonical_key(Words {
         kind: 3,
         payload: pattern,
     }) {
-        CanonicalKey::Key(key) => show_key(key),
-        CanonicalKey::No(refusal) => {
-            io::write_all(STDOUT_FILENO, b" refused ");
-            io::print_decimal(STDOUT_FILENO, refusal as u64);
-        }
+        CanonicalKey::Key(key) => show_key(rt, key)?,
+        CanonicalKey::No(refusal) => print!(rt; " refused {refusal}")?,
     }
-    io::write_all(STDOUT_FILENO, b"\n");
+    println!(rt; "")
 }
 
-fn main() {
-    let mut i = 0usize;
-    while i < 77 {
-        show(PATTERNS[i]);
-        i += 1;
+fn main(rt: HostRuntime) -> io::Result<()> {
+    for pattern in PATTERNS {
+        show(&rt, pattern)?;
     }
+    Ok(())
 }

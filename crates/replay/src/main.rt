@@ -1,9 +1,15 @@
 // Replays stored traces. The arguments are pairs: how to compare, `exactly` or `sets`, and a file of traces with their answers, which
-// tests/replay makes. Of each file a line is written: how many traces it has, and how many are answered otherwise.
-ghost use Rattle.std.specs.Prelude.{◌≡◌, ◌+◌, ◌<◌, ◌≤◌, length};
+// tests/replay makes. Of each file a line is written: how many traces it has, and how many are answered otherwise. An error is that of a
+// write, and ends the run.
+#![tactic(auto)]
+
+ghost use Rattle.std.specs.Prelude.{◌≡◌, ◌+◌, ◌<◌, ◌≤◌, length, IfSome};
 ghost use Rattle.replay.specs.Numbers.{file_room, output_room, modulus};
 
-use libc::STDOUT_FILENO;
+use std::env::FillError;
+use std::fs::File;
+use std::rt::{Env, Files};
+use std::{io, str};
 use store::Made;
 
 // The most bytes of a file and of a trace's input that tests/replay makes, and room for the output of such a trace: three times the input and
@@ -21,14 +27,14 @@ const NEXT_REPLY: u64 = 260;
 const MODULUS: u64 = 36028797018963913;
 
 // A reply: its kind, where it ends, and its bytes as one number, modulo the prime.
-#[derive(Drop)]
+#[derive(Clone, Copy)]
 struct Part {
     kind: u64,
     end: usize,
     digest: u64,
 }
 
-#[derive(Drop)]
+#[derive(Clone, Copy)]
 struct Tally {
     traces: u64,
     otherwise: u64,
@@ -141,7 +147,7 @@ fn is_answered(input: &[u8], stored: &[u8], sets: bool) -> bool {
             if sets {
                 same_as_sets(&output[0..made], stored)
             } else {
-                check::same(&output[0..made], stored)
+                &output[0..made] == stored
             }
         }
         Made::No(_) => false,
@@ -186,42 +192,63 @@ fn replay(file: &[u8], sets: bool) -> Tally {
     }
 }
 
-fn show(name: &[u8], tally: Tally) {
-    io::write_all(STDOUT_FILENO, name);
-    io::write_all(STDOUT_FILENO, b": ");
-    io::print_decimal(STDOUT_FILENO, tally.traces);
-    io::write_all(STDOUT_FILENO, b" traces, ");
-    io::print_decimal(STDOUT_FILENO, tally.otherwise);
-    io::write_all(STDOUT_FILENO, b" answered otherwise\n");
+fn show(rt: &impl Print, name: &[u8], tally: Tally) -> io::Result<()> {
+    let traces = tally.traces;
+    let otherwise = tally.otherwise;
+    rt.write_all(name)?;
+    println!(rt; ": {traces} traces, {otherwise} answered otherwise")
 }
 
-fn replay_file(name: &[u8], sets: bool) {
-    let fd = os::open_read(name);
-    if fd < 0 {
-        os::fail(name);
-        return;
-    }
-    let mut file = file_room();
-    let n = io::read_full(fd, &mut file);
-    libc::close(fd);
-    show(name, replay(&file[..n], sets));
+// A file that does not open is told on standard error; nor does one whose name is no text, since std opens by text.
+fn replay_file(rt: &(impl Files + Print + Eprint), name: &[u8], sets: bool) -> io::Result<()> {
+    let Ok(text) = str::from_utf8(name) else {
+        return eprintln!(rt; "a file's name is no text");
+    };
+    let mut file = match File::open(rt, text) {
+        Ok(file) => file,
+        Err(error) => return eprintln!(rt; "{text}: {error}"),
+    };
+    let mut bytes = file_room();
+    let n = console::read_full(&mut file, &mut bytes);
+    show(rt, name, replay(&bytes[..n], sets))
 }
 
 fn is_sets(how: &[u8]) -> bool {
-    check::same(how, b"sets")
+    how == b"sets".as_slice()
 }
 
-// The arguments with these numbers.
-fn replay_pair(how: usize, name: usize) {
-    let mut method = [0u8; 16];
-    let m = os::arg(how, &mut method);
-    let mut path = [0u8; 64];
-    let n = os::arg(name, &mut path);
-    replay_file(&path[..n], is_sets(&method[..m]));
-}
-
-fn main() {
-    for pair in 0..os::arg_count() / 2 {
-        replay_pair(2 * pair + 1, 2 * pair + 2);
+// The argument with this number, at the front of the room, and how long it is; one that there is no room for counts as empty.
+fn argument(rt: &impl Env, number: usize, room: &mut [u8]) -> Option<usize>
+    ensures { IfSome result (λ n. n ≤ length room.new) }
+{
+    match rt.arg(number, room) {
+        Ok(n) => Some(n),
+        Err(FillError::TooLong) => Some(0),
+        Err(FillError::NotPresent) => None,
     }
+}
+
+// The arguments with these numbers, and whether there is the first. A name that is missing counts as empty.
+fn replay_pair(
+    rt: &(impl Env + Files + Print + Eprint),
+    how: usize,
+    name: usize,
+) -> io::Result<bool> {
+    let mut method = [0u8; 16];
+    let Some(m) = argument(rt, how, &mut method) else {
+        return Ok(false);
+    };
+    let mut path = [0u8; 64];
+    let n = argument(rt, name, &mut path).unwrap_or(0);
+    replay_file(rt, &path[..n], is_sets(&method[..m]))?;
+    Ok(true)
+}
+
+fn main(rt: HostRuntime) -> io::Result<()> {
+    for pair in 0..usize::MAX / 2 {
+        if !replay_pair(&rt, 2 * pair + 1, 2 * pair + 2)? {
+            break;
+        }
+    }
+    Ok(())
 }

@@ -1,4 +1,4 @@
--- What a turn promises, all of it by what stands in the slices, since no contract can say what is read or written outside. Assumes nothing.
+-- What a turn promises, all of it by what stands in the slices, since no contract can say what the system's streams give or take. Assumes nothing.
 use Rattle.std.specs.Prelude.{◌≡◌, false, List, ℕ, ◌+◌, ◌-◌, ◌<◌, ◌≤◌, eqb, length, take, drop}
 use Rattle.store.specs.Store.{Store}
 use Rattle.records.specs.Requests.{longest_record, is_whole}

@@ -1,5 +1,7 @@
 // The trace program (01, 'Trace program'): the records of standard input answered on a fresh store, the replies on standard output, in fixed
 // memory. What the replies are is session's; here bytes are moved.
+#![tactic(auto)]
+
 ghost use Rattle.std.specs.Prelude.{◌≡◌, ◌+◌, ◌<◌, ◌≤◌, length, take};
 ghost use Rattle.store.specs.Store.{store_of};
 ghost use Rattle.store.specs.Written.{Sound};
@@ -10,7 +12,7 @@ ghost use Rattle.trace.specs.Turn.{Answered};
 ghost use Rattle.trace.specs.Run.{Run};
 
 use index::Word;
-use libc::{STDIN_FILENO, STDOUT_FILENO};
+use std::io::{Read, Write};
 use store::{Made, Record};
 
 // The bytes of the input's room, more than the longest record has, and of the output's: three times the input and one longest reply, since a
@@ -22,7 +24,7 @@ const OUTPUT: usize = 3 * INPUT + replies::LONGEST;
 
 // What a turn did: how many bytes came, were taken as records and were handed on to be written; whether the trace is over; and whether all
 // was written.
-#[derive(Drop)]
+#[derive(Clone, Copy)]
 struct Turned {
     sizes: Record,
     got: usize,
@@ -32,14 +34,14 @@ struct Turned {
     written: bool,
 }
 
-#[derive(Drop)]
+#[derive(Clone, Copy)]
 struct Sent {
     made: usize,
     all: bool,
 }
 
 // Why a run ended: the trace is over, by the end of the input or a fault; a write failed; or the turns are used up.
-#[derive(Drop)]
+#[derive(Clone, Copy)]
 enum Ended {
     Stopped,
     Unwritten,
@@ -61,27 +63,31 @@ fn output_room() -> [u8; OUTPUT]
 
 // A read that fails counts as the end of the input. So would one into no room. How much is held is passed for the contract alone: it says which
 // part of the input's room is read into.
-fn read_some(room: &mut [u8], held: usize) -> usize
+fn read_some<R: Read>(stdin: &mut R, room: &mut [u8], held: usize) -> usize
     requires { (0 < length room.old) × (held + length room.old ≡ input_room) }
     ensures { result ≤ length room.old }
 {
-    let got = libc::read(STDIN_FILENO, room);
-    io::count(got, room)
+    match stdin.read(room) {
+        Ok(got) => got,
+        Err(_) => 0,
+    }
 }
 
-// Writes these bytes, the first of the output, which is lent for the contract alone.
-fn send(bytes: &[u8], output: &[u8]) -> Sent
+// Writes these bytes, the first of the output, which is lent for the contract alone, and flushes them.
+fn send<W: Write>(stdout: &mut W, bytes: &[u8], output: &[u8]) -> Sent
     requires { bytes.now ≡ take (length bytes.now) output.now }
     ensures { result.made ≡ length bytes.now }
 {
     Sent {
         made: bytes.len(),
-        all: io::write_all(STDOUT_FILENO, bytes),
+        all: stdout.write_all(bytes).is_ok() && stdout.flush().is_ok(),
     }
 }
 
 // Reads once after the bytes that are held, answers what is decided, and writes the replies.
-fn turn(
+fn turn<R: Read, W: Write>(
+    stdin: &mut R,
+    stdout: &mut W,
     array: &mut [u64],
     entries: &mut [u64],
     index: &mut [Word],
@@ -91,16 +97,16 @@ fn turn(
     output: &mut [u8],
 ) -> Turned
     requires sound { Sound (store_of array.old entries.old index.old sizes) }
-    requires held_lt_longest_record { (held < longest_record) × (input_room ≡ length input.old) × (output_room ≡ length output.old) }
+    requires rooms { (held < longest_record) × (input_room ≡ length input.old) × (output_room ≡ length output.old) }
     ensures { Answered (store_of array.old entries.old index.old sizes) (store_of array.new entries.new index.new result.sizes) input.old held input.new output.new result }
 {
-    let got = read_some(&mut input[held..], held);
+    let got = read_some(stdin, &mut input[held..], held);
     let n = held + got;
     let p = session::serve(array, entries, index, sizes, &input[0..n], got == 0, output);
     let after = p.sizes;
     let made = p.made;
     let replies = &output[..];
-    let sent = send(&replies[0..made], replies);
+    let sent = send(stdout, &replies[0..made], replies);
     Turned {
         sizes: after,
         got: got,
@@ -113,7 +119,14 @@ fn turn(
 
 // Turn after turn, what is left of the input moved to its front in between. A proved loop has to end, and nothing says that the input does:
 // so it counts turns down, from a number that no run uses up.
-fn take_turns(array: &mut [u64], entries: &mut [u64], index: &mut [Word], sizes: Record) -> Ended
+fn take_turns<R: Read, W: Write>(
+    stdin: &mut R,
+    stdout: &mut W,
+    array: &mut [u64],
+    entries: &mut [u64],
+    index: &mut [Word],
+    sizes: Record,
+) -> Ended
     requires { Sound (store_of array.old entries.old index.old sizes) }
     ensures { Run (store_of array.old entries.old index.old sizes) result }
 {
@@ -123,7 +136,17 @@ fn take_turns(array: &mut [u64], entries: &mut [u64], index: &mut [Word], sizes:
     let mut held = 0;
     let mut turns = u64::MAX;
     while turns > 0 {
-        let t = turn(array, entries, index, now, &mut input, held, &mut output);
+        let t = turn(
+            stdin,
+            stdout,
+            array,
+            entries,
+            index,
+            now,
+            &mut input,
+            held,
+            &mut output,
+        );
         if !t.written {
             return Ended::Unwritten;
         }
@@ -139,18 +162,25 @@ fn take_turns(array: &mut [u64], entries: &mut [u64], index: &mut [Word], sizes:
 }
 
 // The whole program: on a fresh store of the trace's room. That its lengths would not be right never comes.
-fn run() -> Ended
+fn run<R: Read, W: Write>(stdin: &mut R, stdout: &mut W) -> Ended
     ensures { Run trace_store result }
 {
     let mut array = session::array_room();
     let mut entries = session::entry_room();
     let mut index = session::index_room();
     match store::fresh(&mut array, &mut entries, &mut index) {
-        Made::Store(sizes) => take_turns(&mut array, &mut entries, &mut index, sizes),
+        Made::Store(sizes) => take_turns(
+            stdin,
+            stdout,
+            &mut array,
+            &mut entries,
+            &mut index,
+            sizes,
+        ),
         Made::No(_) => Ended::Spent,
     }
 }
 
-fn main() {
-    run();
+fn main(rt: HostRuntime) {
+    run(&mut rt.stdin(), &mut rt.stdout());
 }

@@ -3,11 +3,7 @@ use mathlib.Core.Path.{sym}
 use Prim.Native.Nat.{ℕ}
 use lib.ListN.{length-replicate}
 use Rattle.console.specs.Input.{byte_room}
-use Rattle.console.proofs.byte_room.Statement.{statement}
-use Rattle.console.proofs.byte_room.Tie as tie
+use Rattle.console.proofs.byte_room.Goals as goal
 
-returns : tie.Need-returns
+pub returns : goal.returns
 returns c = sym (length-replicate {A = ℕ} byte_room 0)
-
-pub byte-room-spec : {M : Type 1} → statement M
-byte-room-spec = tie.close (tie.spec returns)

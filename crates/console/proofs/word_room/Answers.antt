@@ -3,11 +3,7 @@ use mathlib.Core.Path.{sym}
 use Prim.Native.Nat.{ℕ}
 use lib.ListN.{length-replicate}
 use Rattle.console.specs.Input.{word_room}
-use Rattle.console.proofs.word_room.Statement.{statement}
-use Rattle.console.proofs.word_room.Tie as tie
+use Rattle.console.proofs.word_room.Goals as goal
 
-returns : tie.Need-returns
+pub returns : goal.returns
 returns c = sym (length-replicate {A = ℕ} word_room 0)
-
-pub word-room-spec : {M : Type 1} → statement M
-word-room-spec = tie.close (tie.spec returns)
