@@ -1,4 +1,4 @@
-//! Links the proved library, which `rt staticlib host` writes to target/staticlib.
+//! Links the proved library, which `tools/make host` writes to target/staticlib.
 fn main() {
     let folder = concat!(env!("CARGO_MANIFEST_DIR"), "/../../staticlib");
     println!("cargo:rustc-link-search=native={folder}");

@@ -1,5 +1,5 @@
 /* Fragments of a datagram, keyed by their offset, in memory that this program lends: reassembled, cleared while walking, and refused when
-   room ends. Writes examples/reassemble.out. From the repository's root, after `rt staticlib host`:
+   room ends. Writes examples/reassemble.out. From the repository's root, after `tools/make host`:
        gcc -std=c11 -Ibindings/c examples/reassemble.c target/staticlib/libhost.a -o target/reassemble && target/reassemble */
 #include "amzighrod.h"
 

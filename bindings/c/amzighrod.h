@@ -1,4 +1,5 @@
-/* The table's calls for C and C++, on x86-64: the functions of crates/host, which `rt staticlib host` writes to target/staticlib/libhost.a.
+/* The table's calls for C and C++, on x86-64: the functions of crates/host, which crates/host_c exports;
+   `tools/make host` writes them to target/staticlib/libhost.a.
    The rules are those of the paper, as docs/PROMISES.md has them; here is what a caller passes and what comes back.
 
    A value is two 64-bit words, kind and payload:

@@ -1,4 +1,4 @@
-//! Links libhost.a, which `rt staticlib host` writes to target/staticlib/; AMZIGHROD_LIB names another folder that has it.
+//! Links libhost.a, which `tools/make host` writes to target/staticlib/; AMZIGHROD_LIB names another folder that has it.
 use std::{env, path::PathBuf};
 
 fn main() {
@@ -7,7 +7,7 @@ fn main() {
         PathBuf::from,
     );
     let archive = folder.join("libhost.a");
-    assert!(archive.is_file(), "no {}: run `rt staticlib host`, or set AMZIGHROD_LIB", archive.display());
+    assert!(archive.is_file(), "no {}: run `tools/make host`, or set AMZIGHROD_LIB", archive.display());
     println!("cargo:rerun-if-env-changed=AMZIGHROD_LIB");
     println!("cargo:rerun-if-changed={}", archive.display());
     println!("cargo:rustc-link-search=native={}", folder.display());

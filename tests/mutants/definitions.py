@@ -24,13 +24,10 @@ ROW, LEFT = "by a row", "by no row"
 UNCHANGED = Mutant("Entries", "", "none", 0, 0, "")  # in each batch, so that a claim which was not looked at would show
 # what a change may bring in
 NAMES = {
-    "mathlib.Core.Bool": ("true", "false", "not", "cond", "_&&_", "_||_"),
-    "mathlib.Core.List": ("[]",),
-    "Prim.Native.Nat": ("suc", "pred", "_+_", "_-_", "_*_", "min", "max"),
-    "lib.Dec": ("leb", "ltb"),
-    "Rattle·value.specs.Same": ("nil",),
-    "Rattle·key.specs.declared.ArrayIndex.the-variants": ("Nothing",),
-    "Rattle·model·specs.specs.Entries": ("last",),
+    "Rattle.std.specs.Prelude": tuple("true false not cond ◌&&◌ ◌||◌ [] suc pred ◌+◌ ◌-◌ ◌*◌ min max leb ltb".split()),
+    "Rattle.value.specs.Same": ("nil",),
+    "Rattle.key.specs.declared.ArrayIndex.TheVariants": ("Nothing",),
+    "Rattle.model.specs.Entries": ("last",),
 }
 
 
@@ -43,14 +40,11 @@ class Variants:
         self.root = Path(self.folder.name, "repository")
         self.model = self.root / "crates/model"
         for crate in ("value", "key"):
-            shutil.copytree(root / "crates" / crate, self.root / "crates" / crate, ignore=shutil.ignore_patterns("must-fail"))
-        for part in ("rlib", "stamp"):
-            if (root / "target" / part).is_dir():
-                shutil.copytree(root / "target" / part, self.root / "target" / part)
+            shutil.copytree(root / "crates" / crate, self.root / "crates" / crate, ignore=shutil.ignore_patterns("must-fail", "incremental"))
         lines = (root / "crates.txt").read_text().splitlines(True)
         (self.root / "crates.txt").write_text("".join(line for line in lines if re.match("(value|key|model):", line)))
         (self.model / "src").mkdir(parents=True)
-        (self.model / "src/lib.rt").write_text("// No program.\n")
+        shutil.copy(root / "crates/model/src/lib.rt", self.model / "src")
         specs = root / "crates/model/specs"
         self.texts = {name: (specs / f"{name}.antt").read_text() for name in (*MODULES, "Rows")}
         self.claim = (root / "crates/model/proofs/Rows.antt").read_text()
@@ -73,11 +67,11 @@ class Variants:
             before = self.texts[m.file]
             texts = {**self.texts, m.file: with_names(before[: m.start] + m.new + before[m.end :], NAMES)}
             copied = names[names.index(m.file) :]
-            moved = re.compile(rf"specs\.specs\.({'|'.join(copied)})\.")
+            moved = re.compile(rf"model\.specs\.({'|'.join(copied)})\.")
             for name in copied:
-                (self.model / f"specs/{name}{n}.antt").write_text(moved.sub(rf"specs.specs.\g<1>{n}.", texts[name]))
+                (self.model / f"specs/{name}{n}.antt").write_text(moved.sub(rf"model.specs.\g<1>{n}.", texts[name]))
                 own.append(f"pub mod {name}{n}\n")
-            claim = moved.sub(rf"specs.specs.\g<1>{n}.", self.claim).replace("true", answer)
+            claim = moved.sub(rf"model.specs.\g<1>{n}.", self.claim).replace("true", answer)
             (self.model / f"proofs/Rows{n}.antt").write_text(claim)
             claims.append(f"pub mod Rows{n}\n")
         (self.model / "specs/Lib.antt").write_text("".join(own))
@@ -86,8 +80,8 @@ class Variants:
     def refused(self, batch, answer):
         """The mutants of a batch whose claim was refused, with the files and words of the errors."""
         self.written(batch, answer)
-        _, log = rt(self.root, "dev", "model")
-        if not re.search(r"^logic=|stopped at the step limit", log, re.M):
+        _, log = rt(self.model)
+        if not re.search(r"^logic=|stopped at the step limit|ran out of the steps", log, re.M):
             raise SystemExit(f"definitions: the prover gave no verdict:\n{log[-2000:]}")
         found = {}
         for file, _, said in ERROR.findall(log):

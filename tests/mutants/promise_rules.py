@@ -9,7 +9,7 @@ from mutants.terms import with_names
 
 # the modules that declare promises; in those that compute, these alone
 MODULES = {"Entries": ("distinct",), "Growth": ("Passes",), "WellFormed": None, "Manual": None, "Means": None, "Refused": None, "Settles": None}
-NAMES = {"mathlib.Core.Bool": ("true", "false"), "Prim.Native.Nat": ("_≤_", "_<_")}  # what a change may bring in
+NAMES = {"Rattle.std.specs.Prelude": ("true", "false", "◌≤◌", "◌<◌")}  # what a change may bring in
 UNTYPED = "no definition"
 # a declaration of statements: a record or a data type with its lines, or a definition that gives a type, with its clauses
 DECLARED = re.compile(
@@ -18,9 +18,9 @@ DECLARED = re.compile(
     re.M,
 )
 BINDER = re.compile(r"[({]((?:\w+ )+): (\w+(?: \w+)?)[)}]")
-WORD = re.compile(r"(?<![\w.·{])(?:\d+|[A-Za-z]\w*|≤|<|⊎|×)(?![\w·])|(?<=\s)\.[a-z]\w*")
+WORD = re.compile(r"(?<![\w.·{])(?:\d+|[A-Za-z]\w*|≤|<|⊎|×)(?![\w·])|(?<=[\w)])\.[a-z]\w*")
 OTHERS = {"≤": ["<"], "<": ["≤"], "true": ["false"], "false": ["true"], "⊎": ["×"], "suc": [""], "not": [""]}
-FIELDS = [[".arrayRoom", ".entryRoom", ".classes"], [".key", ".value"], [".kind", ".payload"]]
+FIELDS = [[".array_room", ".entry_room", ".classes"], [".key", ".value"], [".kind", ".payload"]]
 
 
 def binders(text):
@@ -72,8 +72,8 @@ def asked(copy, m, users):
     with copy.restored("model"):
         text = path.read_text()
         path.write_text(with_names(text[: m.start] + m.new + text[m.end :], NAMES))
-        status, log = rt(copy.root, "dev", "model", seconds=SECONDS)
-        if any("model/specs/" in file for file, _, _ in ERROR.findall(log)):
+        status, log = rt(copy.crate("model"), SECONDS)
+        if any("specs/" in file for file, _, _ in ERROR.findall(log)):
             return UNTYPED, ERROR.findall(log)[0][2]
         what, why = verdict(status, log)
         if what == SURVIVED:

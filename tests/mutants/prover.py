@@ -9,6 +9,8 @@ import tempfile
 from contextlib import contextmanager
 from pathlib import Path
 
+from mutants.source import FN
+
 SECONDS = 300  # for one mutant; no verdict after that
 FACT, SHAPE, REJECTED, SURVIVED, UNDECIDED = "at a fact", "by shape only", "not compiled", "survived", "no verdict"
 CLASSES = (FACT, SHAPE, REJECTED, SURVIVED, UNDECIDED)
@@ -16,11 +18,15 @@ CLASSES = (FACT, SHAPE, REJECTED, SURVIVED, UNDECIDED)
 ERROR = re.compile(r"^\S*?([\w/.-]+\.(?:rt|antt)):(\d+):\d+: error(?:\[[\w-]+\])?: (.*)", re.M)
 # an error that only follows from another one
 FOLLOWS = re.compile(r"was not admitted")
-# the proof does not fit what the function now consists of: other needs, other locals of a loop, another number of ways through
-MISFIT = re.compile(r"that can be named from here|has no field|needs a function \(or path\) type to bind|^`(Inv|μ)-")
+# the answers do not fit what the function now consists of: other goals, other locals of a loop, another number of ways through
+MISFIT = re.compile(r"that can be named from here|has no field|is not in scope|needs a function \(or path\) type to bind")
+# a goal that has no answer, for which the tactics find no proof; the second form says that it is false of some values
+UNPROVED = re.compile(r"^note: src/(\S+):(\d+):\d+: (it is not proved that .*)", re.M)
+FALSE = re.compile(r"allow values at which this goal is false")
 UNCOVERED = re.compile(r"^fn \w+::(\w+): not proved; (the borrow checker does not cover .*)", re.M)
-# a function that has no proof of its own: the prover looks for one among what is known there
-UNFOUND = re.compile(r"^fn \w+::(\w+): no proof: .*(`search` does not close .*)", re.M)
+# an answer to a goal that has another name now, since goals are named by the tests on the way: the likeliest name is told first
+RENAMED = re.compile(r"^help: `Goals` has no `([^`]+)`; rattle asks for `([^`]+)`", re.M)
+TESTS = re.compile(r"(?:then|else)-((?:(?!-(?:then|else)-)[^+])+)")
 
 
 def verdict(status, log):
@@ -29,30 +35,33 @@ def verdict(status, log):
         return SURVIVED, ""
     rejected = [said for file, _, said in ERROR.findall(log) if file.endswith(".rt")] + [said for _, said in UNCOVERED.findall(log)]
     proofs = [said for file, _, said in ERROR.findall(log) if file.endswith(".antt")]
-    return judged(rejected, proofs, [said for _, said in UNFOUND.findall(log)])
+    return judged(rejected, proofs, [said for _, _, said in UNPROVED.findall(log)])
 
 
-def verdict_of(function, log):
-    """The same of one changed function among others, by the errors in its own proof: no other proof looks into its body."""
-    proofs = [said for file, _, said in ERROR.findall(log) if file.endswith(f"proofs/{function}/Proof.antt")]
-    rejected, unfound = ([said for name, said in kind.findall(log) if name == function] for kind in (UNCOVERED, UNFOUND))
-    return judged(rejected, proofs, unfound)
+def verdict_of(function, owner, log):
+    """The same of one changed function among others, by the errors in its own proof and its goals: no other proof looks into its body. `owner` tells the
+    function at a line of a file."""
+    proofs = [said for file, _, said in ERROR.findall(log) if f"proofs/{function}/" in file]
+    goals = [said for file, line, said in UNPROVED.findall(log) if owner(file, int(line)) == function]
+    return judged([said for name, said in UNCOVERED.findall(log) if name == function], proofs, goals)
 
 
-def judged(rejected, proofs, unfound):
+def judged(rejected, proofs, goals):
+    """Where answers do not fit, a goal without one says nothing, unless it is false."""
     if rejected:
         return REJECTED, rejected[0]
     own = [said for said in proofs if not FOLLOWS.search(said)]
-    facts = [said for said in own if not MISFIT.search(said)] + unfound
+    misfits = [said for said in own if MISFIT.search(said)]
+    facts = [said for said in own if not MISFIT.search(said)] + [said for said in goals if not misfits or FALSE.search(said)]
     if facts:
         return FACT, facts[0]
-    return (SHAPE, own[0]) if own else (UNDECIDED, "")
+    return (SHAPE, misfits[0]) if misfits else (UNDECIDED, "")
 
 
-def rt(root, *words, seconds=None):
-    """The status and the log of rt, one crate at a time; status 3 where it has not ended in time."""
-    alone = {**os.environ, "RT_JOBS": "1"}
-    started = subprocess.Popen(["rt", *words], cwd=root, env=alone, stdout=subprocess.PIPE, stderr=subprocess.STDOUT, start_new_session=True)
+def rt(crate, seconds=None):
+    """The status and the log of `rt check` in a crate's folder, by one process; status 3 where it has not ended in time."""
+    command = ["rt", "check", "--jobs", "1"]
+    started = subprocess.Popen(command, cwd=crate, stdin=subprocess.DEVNULL, stdout=subprocess.PIPE, stderr=subprocess.STDOUT, start_new_session=True)
     try:
         log, _ = started.communicate(timeout=seconds)
     except subprocess.TimeoutExpired:
@@ -62,48 +71,79 @@ def rt(root, *words, seconds=None):
     return started.returncode, log.decode(errors="replace")
 
 
+def turned(text, pairs):
+    """Answers with the names of these goals, and of the tests in them, turned to those that are asked for now."""
+    for old, new in pairs:
+        text = re.sub(rf"(?<![\w-]){re.escape(old)}(?![\w-])", lambda _: new, text)
+        for one, other in zip(TESTS.findall(old), TESTS.findall(new)):
+            if one != other:
+                text = re.sub(rf"(?<![\w])((?:if|then|else)-){re.escape(one)}(?=[^\w-]|-(?:then|else)-|$)", lambda m: m[1] + other, text)
+    return text
+
+
 class Copy:
-    """The copy. A crate is proved in it once; after each mutant its source and its incremental folder are as they were."""
+    """The copy. After each mutant its source is as it was; what a check keeps beside it may stay, since it goes by the text that was checked."""
 
     def __init__(self, root):
         self.folder = tempfile.TemporaryDirectory(prefix="mutants-")
         self.root = Path(self.folder.name, "repository")
-        shutil.copytree(root / "crates", self.root / "crates")
+        shutil.copytree(root / "crates", self.root / "crates", ignore=shutil.ignore_patterns("incremental"))
         shutil.copy(root / "crates.txt", self.root)
-        for part in ("rlib", "stamp"):
-            if (root / "target" / part).is_dir():
-                shutil.copytree(root / "target" / part, self.root / "target" / part)
+
+    def crate(self, name):
+        return self.root / "crates" / name
 
     def ready(self, crate):
-        """Proves a crate as it is, and keeps what that leaves."""
-        self.inc, self.kept = self.root / "target/inc" / crate, Path(self.folder.name, "inc", crate)
-        status, log = rt(self.root, "dev", crate)
+        """Proves a crate as it is."""
+        status, log = rt(self.crate(crate))
         if verdict(status, log)[0] != SURVIVED:
             raise SystemExit(f"mutants: {crate} is not proved as it is:\n{log[-2000:]}")
-        shutil.copytree(self.inc, self.kept)
 
     def tried(self, crate, batch, users):
         """What the prover says of each mutant of a batch, at most one a function: its class, the error and the log. Those whose proofs have no
-        error of their own are asked about alone; one in a constant that its crate takes is put before the crates that use it, too."""
+        error of their own, or answers that do not fit, are asked about alone; one in a constant that its crate takes is put before the crates that
+        use it, too."""
         with self.changed(crate, batch):
-            status, log = rt(self.root, "dev", crate, seconds=SECONDS)
-            if len(batch) == 1 and verdict(status, log)[0] == SURVIVED and batch[0].function.isupper():
-                status, log = self.used(users)
-        if len(batch) == 1:
-            return {batch[0]: (*verdict(status, log), log)}
-        found = {m: (*verdict_of(m.function, log), log) for m in batch}
+            status, log = rt(self.crate(crate), SECONDS)
+            if len(batch) == 1:
+                return {batch[0]: self.alone(crate, batch[0], status, log, users)}
+            owner = self.owner(crate)
+            found = {m: (*verdict_of(m.function, owner, log), log) for m in batch}
         found.update({m: (REJECTED, said, log) for m, said in self.rejected(crate, batch, log)})
-        left = [m for m in batch if found[m][0] == UNDECIDED]
+        left = [m for m in batch if found[m][0] in (UNDECIDED, SHAPE)]
         together = len(left) < len(batch) and not re.search(r"^logic=", log, re.M)  # the front end saw no further than what it rejected
         for rest in [left] if left and together else [[m] for m in left]:
             found.update(self.tried(crate, rest, users))
         return found
 
+    def alone(self, crate, m, status, log, users):
+        """What the prover says of one mutant, with its answers under the names that are asked for now where they have others."""
+        pairs = RENAMED.findall(log)
+        if pairs and verdict(status, log)[0] == SHAPE:
+            for path in (self.crate(crate) / "proofs" / m.function).glob("*.antt"):
+                path.write_text(turned(path.read_text(), pairs))
+            status, log = rt(self.crate(crate), SECONDS)
+        if verdict(status, log)[0] == SURVIVED and m.function.isupper():
+            status, log = self.used(users)
+        return (*verdict(status, log), log)
+
+    def owner(self, crate):
+        """Tells the function at a line of a file of the crate as it is now: the last one that begins before it."""
+
+        def told(file, line):
+            text, name = (self.crate(crate) / "src" / file).read_text(), None
+            for m in FN.finditer(text):
+                if text.count("\n", 0, m.start()) < line:
+                    name = m.group(1)
+            return name
+
+        return told
+
     def rejected(self, crate, batch, log):
         """The mutants at which the front end has an error."""
         lines = [(int(line), said) for file, line, said in ERROR.findall(log) if file.endswith(".rt")]
         for m in batch:
-            text = Path(self.root, "crates", crate, "src", m.file).read_text()
+            text = Path(self.crate(crate), "src", m.file).read_text()
             first, last = text.count("\n", 0, m.start) + 1, text.count("\n", 0, m.end) + 1
             yield from [(m, said) for line, said in lines if first <= line <= last][:1]
 
@@ -111,7 +151,7 @@ class Copy:
         """What the prover says of the crate with an edit, a file in the form of those under must-fail/."""
         with self.restored(crate):
             self.apply(crate, edit)
-            status, log = rt(self.root, "dev", crate, seconds=SECONDS)
+            status, log = rt(self.crate(crate), SECONDS)
         return (*verdict(status, log), log)
 
     def apply(self, crate, edit):
@@ -119,7 +159,7 @@ class Copy:
         for line in edit.read_text().splitlines():
             kind, _, said = line.partition(": ")
             if kind == "file":
-                path = self.root / "crates" / crate / said
+                path = self.crate(crate) / said
             elif kind == "old":
                 old = said
             elif kind == "new":
@@ -131,7 +171,7 @@ class Copy:
     @contextmanager
     def changed(self, crate, batch):
         """The crate with the mutants in it, and after that as it was."""
-        folder = self.root / "crates" / crate / "src"
+        folder = self.crate(crate) / "src"
         with self.restored(crate):
             for m in sorted(batch, key=lambda m: m.start, reverse=True):
                 text = (folder / m.file).read_text()
@@ -140,24 +180,22 @@ class Copy:
 
     @contextmanager
     def restored(self, crate):
-        """Afterwards the crate is as it was, and so is what its proof left."""
-        before = {path: path.read_text() for part in ("src", "specs") for path in (self.root / "crates" / crate / part).rglob("*.*")}
+        """Afterwards the crate is as it was."""
+        before = {path: path.read_text() for part in ("src", "specs", "proofs") for path in (self.crate(crate) / part).rglob("*.*") if path.is_file()}
         try:
             yield
         finally:
             for path, text in before.items():
                 if path.read_text() != text:
                     path.write_text(text)
-            shutil.rmtree(self.inc)
-            shutil.copytree(self.kept, self.inc)
 
     def used(self, users):
         """The first refusal among the crates that use a changed one, proved in a copy of the copy."""
         with tempfile.TemporaryDirectory(prefix="mutants-") as folder:
             other = Path(folder, "repository")
-            shutil.copytree(self.root, other, ignore=shutil.ignore_patterns("inc"))
+            shutil.copytree(self.root, other)
             for user in users:
-                status, log = rt(other, "check", user)
+                status, log = rt(other / "crates" / user)
                 if status:
                     break
             return status, log

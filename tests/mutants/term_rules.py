@@ -7,9 +7,9 @@ from mutants.rules import Mutant
 
 OPERATORS = {"+": ["-"], "-": ["+"], "*": ["+"], "/": ["*"], "^": ["*"], "&&": ["||"], "||": ["&&"]}
 FUNCTIONS = {"ltb": ["leb"], "leb": ["ltb"], "eqb": ["leb"], "max": ["min"], "min": ["max"], "pred": ["suc"], "suc": ["pred"]}
-CONSTANTS = {"ℕ": ["0"], "Words": ["nil"], "NextValue": ["last", "notFound"], "ArrayIndex": ["Nothing"], "Bool": ["true", "false"]}
+CONSTANTS = {"ℕ": ["0"], "Words": ["nil"], "NextValue": ["last", "not_found"], "ArrayIndex": ["Nothing"], "Bool": ["true", "false"]}
 # counts that the rows do not compute: the programs' contracts and `classes` (proofs/Size.antt) speak of them
-BY_CLASS = {"tally", "tallyTo"}
+BY_CLASS = {"tally", "tally_to"}
 # the order of two arguments says nothing here
 EITHER_WAY = {"+", "*", "&&", "||", "max", "min", "eqb", "same"}
 
@@ -137,4 +137,4 @@ class Changes:
                 yield name
             for field, its in self.definitions.records.get(had, {}).items():
                 if its == kind:
-                    yield f"{name} .{field}"
+                    yield f"{name}.{field}"

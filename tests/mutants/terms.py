@@ -4,7 +4,7 @@ It assumes the layout of rt fmt: a clause starts at the left edge with the name 
 import re
 from collections import namedtuple
 
-TOKEN = re.compile(r"--[^\n]*|\s\.[A-Za-z]\w*|0x[0-9a-f]+|[(){};,:=]|λ|\.(?=\s)|[^\s(){};,:=.]+")
+TOKEN = re.compile(r"--[^\n]*|\.[A-Za-z]\w*|0x[0-9a-f]+|[(){};,:=]|λ|\.(?=\s)|[^\s(){};,:=.]+")
 HEAD = re.compile(r"^(?:unfoldable |abbrev )?(?:pub )?([a-z]\w*)(?: \{ℓ\})? : (.*)$", re.M)
 RECORD = re.compile(r"^pub record (\w+) : Type 0 where\n((?:  .*\n?)+)", re.M)
 POWER = {"||": 2, "&&": 3, "∷": 4, "++": 4, "+": 5, "-": 5, "*": 6, "/": 6, "^": 7}
@@ -17,7 +17,7 @@ eqb : ℕ → ℕ → Bool
 leb : ℕ → ℕ → Bool
 ltb : ℕ → ℕ → Bool
 same : Words → Words → Bool
-isNil : Words → Bool
+is_nil : Words → Bool
 decodes : Words → Bool
 nil : Words
 suc : ℕ → ℕ
@@ -26,21 +26,21 @@ min : ℕ → ℕ → ℕ
 max : ℕ → ℕ → ℕ
 size : ℕ → ℕ
 length : List X → ℕ
-getD : List X → ℕ → X → X
+get_or : List X → ℕ → X → X
 set : List X → ℕ → X → List X
 map : (Y → X) → List Y → List X
 integer : ℕ → Words
 largest : ℕ
-keyIsNil : ℕ
-noRoom : ℕ
-arrayIndex : Words → ArrayIndex
-canonicalKey : Words → CanonicalKey
-onKey : CanonicalKey → (ℕ → X) → (Words → X) → X
+key_is_nil : ℕ
+no_room : ℕ
+array_index : Words → ArrayIndex
+canonical_key : Words → CanonicalKey
+on_key : CanonicalKey → (ℕ → X) → (Words → X) → X
 At : ℕ → ArrayIndex
 Nothing : ArrayIndex
 found : Words → Words → NextValue
 last : NextValue
-notFound : NextValue
+not_found : NextValue
 true : Bool
 false : Bool
 """
@@ -74,7 +74,7 @@ def with_names(text, names):
     lines = []
     for module, wanted in names.items():
         missing = [n for n in wanted if n not in had]
-        if missing and ("Rattle·model" not in module or f"use {module}." in text):
+        if missing and ("Rattle.model" not in module or f"use {module}." in text):
             lines.append(f"use {module}.{{{', '.join(missing)}}}\n")
     at = re.search(r"^use ", text, re.M).start()
     return text[:at] + "".join(lines) + text[at:]

@@ -1,4 +1,4 @@
-//! The calls of crates/host on words, made safe: the one module with `unsafe`. Assumes that libhost.a is what `rt staticlib host` wrote.
+//! The calls of crates/host on words, made safe: the one module with `unsafe`. Assumes that libhost.a is what `tools/make host` wrote.
 //! What each call does is said in bindings/c/amzighrod.h.
 
 extern "C" {
