@@ -2,7 +2,8 @@
 // An error is that of a write.
 #![tactic(auto)]
 
-ghost use Rattle.std.specs.Prelude.{◌≡◌, ◌+◌, ◌*◌, ◌/◌, ◌≤◌, length, IfOk, OnErr};
+ghost use Rattle.std.specs.Prelude.{◌≡◌, ◌+◌, ◌*◌, ◌/◌, ◌≤◌, length, take, IfOk, OnErr};
+ghost use Rattle.std.specs.Io.KnownBytes.{Consumes};
 ghost use Rattle.console.specs.Input.{byte_room, word_room, word_at, Holds, sizes_at};
 
 use index::Word;
@@ -47,16 +48,25 @@ fn read_words(bytes: &[u8], words: &mut [u64]) -> usize
     n
 }
 
+// One read; one that fails counts as the end of the input.
+fn read_once<R: Read>(input: &mut R, room: &mut [u8]) -> usize
+    ensures within { result ≤ length room.new }
+    ensures bytes { Consumes (R.remaining input.old) (R.remaining input.new) (take result room.new) }
+{
+    match input.read(room) {
+        Ok(n) => n,
+        Err(_) => 0,
+    }
+}
+
 // Reads until the room is full, the input ends or a read fails, and answers how many bytes came.
 pub fn read_full<R: Read>(input: &mut R, room: &mut [u8]) -> usize
-    ensures { result ≤ length room.new }
+    ensures within { result ≤ length room.new }
+    ensures bytes { Consumes (R.remaining input.old) (R.remaining input.new) (take result room.new) }
 {
     let mut done = 0;
     while done < room.len() {
-        let n = match input.read(&mut room[done..]) {
-            Ok(n) => n,
-            Err(_) => 0,
-        };
+        let n = read_once(input, &mut room[done..]);
         if n == 0 {
             break;
         }

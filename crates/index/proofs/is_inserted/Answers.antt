@@ -24,7 +24,7 @@ bounds-index-place c =
 
 pub overflow_cast-index : goal.overflow_cast-index
 overflow_cast-index c =
-    omega (arith, c.shared_slice_known-in-loop-i-1.given c.entry_seat-place.result)
+    omega (arith, c.type_inv.index c.entry_seat-place.result)
 
 pub returns-then-index-place : goal.returns-then-index-place
 returns-then-index-place c =

@@ -20,7 +20,7 @@ bounds-index-j c =
 
 pub overflow_cast-w : goal.overflow_cast-w
 overflow_cast-w c =
-    omega (arith, c.shared_slice_known-in-loop-left-1.given c.loop-left.j)
+    omega (arith, c.type_inv.index c.loop-left.j)
 
 pub returns-then-w-eq0 : goal.returns-then-w-eq0
 unfolding seat_of

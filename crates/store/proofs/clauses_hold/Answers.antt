@@ -37,8 +37,8 @@ returns c =
     says_same
     (λ R. record {
       shape = c.requires;
-      array_words = λ i. omega (arith, c.shared_slice_known-1.given i);
-      entry_words = λ i. omega (arith, c.shared_slice_known-2-1.given i);
+      array_words = λ i. omega (arith, c.type_inv.array i);
+      entry_words = λ i. omega (arith, c.type_inv.entries i);
       power = said-yes c.zero_or_power.ensures c.if-not-zero_or_power.false;
       array_decodes = said-yes c.all_decode.ensures c.if-not-all_decode.false;
       entries_decode = said-yes c.all_decode-2.ensures c.if-not-all_decode-2.false;

@@ -65,6 +65,6 @@ returns c =
       tt,
       changed s _ RoomOnly _ h (inl refl) (λ S. reserve-kept _ _ a.n (sound-formed s S))
           (record { refused = λ r. absurd (r refl); sound = λ S. dropped s S a.n more (omega (arith, c.if-room-staying.false, c.survey-staying.ensures.number)) _ c.rehash-kept.result (c.rehash-kept.ensures.sound S) _ c.larger.ensures })
-          (λ i. omega (arith, c.slice_known-4-1.given i))
-          (λ i. omega (arith, c.slice_known-5-1.given i)),
+          (λ i. omega (arith, c.type_inv.array i))
+          (λ i. omega (arith, c.type_inv.entries i)),
     )

@@ -39,4 +39,4 @@ returns c =
     set-keyed (store_of a.array.now a.entries.now a.index.now a.sizes) (said-yes c.right_shape.ensures c.if-not-right_shape.false) a.key a.v
     (sym c.are_values.ensures ∙ c.if-not-are_values.false) c.in-Key.k (sym c.canonical_key-canonical.ensures ∙ c.in-Key.is)
     (slices after.array after.entries after.index) c.set_key.result c.set_key.ensures
-    (λ i. omega (arith, c.slice_known-4-1.given i)) (λ i. omega (arith, c.slice_known-5-1.given i))
+    (λ i. omega (arith, c.type_inv.array i)) (λ i. omega (arith, c.type_inv.entries i))
