@@ -24,9 +24,8 @@ ROW, LEFT = "by a row", "by no row"
 UNCHANGED = Mutant("Entries", "", "none", 0, 0, "")  # in each batch, so that a claim which was not looked at would show
 # what a change may bring in
 NAMES = {
-    "Rattle.std.specs.Prelude": tuple("true false not cond ◌&&◌ ◌||◌ [] suc pred ◌+◌ ◌-◌ ◌*◌ min max leb ltb".split()),
+    "Rattle.std.specs.Prelude": tuple("None true false not cond ◌&&◌ ◌||◌ [] suc pred ◌+◌ ◌-◌ ◌*◌ min max leb ltb".split()),
     "Rattle.value.specs.Same": ("nil",),
-    "Rattle.key.specs.declared.ArrayIndex.TheVariants": ("Nothing",),
     "Rattle.model.specs.Entries": ("last",),
 }
 

@@ -111,8 +111,8 @@ class Body:
             self.change("test turned", t.start, t.end, "")
         if t.text != "if" or self.at(i + 1) == "!":
             return
-        end = next(k for k in range(i + 1, len(self.ts)) if self.ts[k].text == "{")
-        if not COMPARISONS & {s.text for s in self.ts[i + 1 : end]}:
+        end = next((k for k in range(i + 1, len(self.ts)) if self.ts[k].text == "{"), i + 1)  # a guard in a pattern may be the last
+        if end > i + 1 and not COMPARISONS & {s.text for s in self.ts[i + 1 : end]}:
             self.change("test turned", self.ts[i + 1].start, self.ts[i + 1].start, "!")
 
     def field(self, i, t):
@@ -194,7 +194,8 @@ class Body:
         fields = self.names.structs.get(self.at(at - 1))
         if fields is None:
             return
-        spans = split(self.ts, at + 1, end_of(self.ts, at))
+        # a field by its name alone has no value of its own, nor has `..rest`
+        spans = [(a, b) for a, b in split(self.ts, at + 1, end_of(self.ts, at)) if self.at(a + 1) == ":"]
         self.pairs([(a + 2, b) for a, b in spans], [fields[self.ts[a].text] for a, _ in spans], False)
 
     def pairs(self, spans, types, alone):

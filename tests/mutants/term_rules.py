@@ -7,7 +7,7 @@ from mutants.rules import Mutant
 
 OPERATORS = {"+": ["-"], "-": ["+"], "*": ["+"], "/": ["*"], "^": ["*"], "&&": ["||"], "||": ["&&"]}
 FUNCTIONS = {"ltb": ["leb"], "leb": ["ltb"], "eqb": ["leb"], "max": ["min"], "min": ["max"], "pred": ["suc"], "suc": ["pred"]}
-CONSTANTS = {"ℕ": ["0"], "Words": ["nil"], "NextValue": ["last", "not_found"], "ArrayIndex": ["Nothing"], "Bool": ["true", "false"]}
+CONSTANTS = {"ℕ": ["0"], "Words": ["nil"], "NextValue": ["last", "not_found"], "Option ℕ": ["None"], "Bool": ["true", "false"]}
 # counts that the rows do not compute: the programs' contracts and `classes` (proofs/Size.antt) speak of them
 BY_CLASS = {"tally", "tally_to"}
 # the order of two arguments says nothing here

@@ -33,11 +33,11 @@ integer : ℕ → Words
 largest : ℕ
 key_is_nil : ℕ
 no_room : ℕ
-array_index : Words → ArrayIndex
-canonical_key : Words → CanonicalKey
-on_key : CanonicalKey → (ℕ → X) → (Words → X) → X
-At : ℕ → ArrayIndex
-Nothing : ArrayIndex
+array_index : Words → Option ℕ
+canonical_key : Words → Result Words Refusal
+on_key : Result Words Refusal → (ℕ → X) → (Words → X) → X
+Some : ℕ → Option ℕ
+None : Option ℕ
 found : Words → Words → NextValue
 last : NextValue
 not_found : NextValue

@@ -1,25 +1,26 @@
 -- What a table answers to a trace's request, and what is promised of a request that is answered on a store. Assumes nothing.
 use Rattle.std.specs.Prelude.{◌≡◌}
+use Rattle.value.specs.declared.Words.{Words}
 use Rattle.model.specs.Table.{Room, Table, get_of, next_of}
 use Rattle.model.specs.Calls.{set_of, reserve_of}
 use Rattle.model.specs.Length.{length_of}
 use Rattle.store.specs.Store.{Store, room_for}
 use Rattle.store.specs.Written.{Sound, table_of}
-use Rattle.reads.specs.declared.NextWords.{NextWords}
-use Rattle.reads.specs.declared.NextWords.TheVariants.{Found as FoundWords, Last as LastWords, NotFound as NotFoundWords, No as NextNo}
+use Rattle.reads.specs.declared.Next.{Next as Step}
+use Rattle.reads.specs.declared.Next.TheVariants as step
 use Rattle.reads.specs.Reads.{in_words}
 use Rattle.table.specs.Stays.{Stays}
 use Rattle.records.specs.declared.Request.{Request}
 use Rattle.records.specs.declared.Request.TheVariants.{Get, Set, Length, Next, Reserve}
 use Rattle.records.specs.Requests.{ValuesPassed}
 use Rattle.replies.specs.declared.Reply.{Reply}
-use Rattle.replies.specs.declared.Reply.TheVariants.{Got, Set as WasSet, Length as Measures, Found, Last, NotFound, Reserved, Fault}
+use Rattle.replies.specs.declared.Reply.TheVariants.{Got, Set as WasSet, Length as Measures, Found, Last, NotFound, Reserved}
 
-abbrev pub next_reply : NextWords → Reply
-next_reply (FoundWords k v) = Found k v
-next_reply LastWords = Last
-next_reply NotFoundWords = NotFound
-next_reply (NextNo n) = Fault n
+-- a step in words as a reply
+abbrev pub next_reply : Step Words → Reply
+next_reply (step.Found k v) = Found k v
+next_reply step.Last = Last
+next_reply step.NotFound = NotFound
 
 -- what a table answers to a request
 abbrev pub reply_of : Room → Table → Request → Reply

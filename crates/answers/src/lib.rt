@@ -1,17 +1,17 @@
 // A trace's request answered on a store (01, 'Trace program'): each by its call. Every function is total.
-#![tactic(auto)]
+#![tactic(auto, using(crate::proofs::Requests::answering))]
 
-ghost use Rattle.store.specs.Store.{store_of};
-ghost use Rattle.records.specs.declared.Request.TheVariants.{Get, Set, Length, Next, Reserve};
-ghost use Rattle.answers.specs.Answers.{Answers};
+ghost use Rattle.std.specs.Prelude.{◌≡◌};
+ghost use Rattle.value.specs.Refusals.{refusal_number};
+ghost use Rattle.store.specs.Store.{store_of, seen};
+ghost use Rattle.answers.specs.Answers.{next_reply, Answers};
 
 use index::Word;
-use reads::{GotWords, Measured, NextWords};
+use reads::Next;
 use records::Request;
 use replies::Reply;
-use store::Record;
-use value::Words;
-use writes::{Reserved, SetWords};
+use store::{Record, View};
+use value::{Refusal, Words};
 
 #[derive(Clone, Copy)]
 pub struct Answered {
@@ -19,36 +19,24 @@ pub struct Answered {
     pub sizes: Record,
 }
 
-// In each answer, a refusal of a call that reads comes only where the shape is wrong, and no trace is run on such a store.
-fn answer_get(array: &[u64], entries: &[u64], index: &[Word], sizes: Record, key: Words) -> Reply
-    ensures { Answers (store_of array.now entries.now index.now sizes) (Get key) (store_of array.now entries.now index.now sizes) result }
+// A call that reads is refused only where the shape is wrong, and no trace is run on such a store.
+fn refused(refusal: Refusal) -> Reply
+    ensures { result ≡ Reply.Fault (refusal_number refusal) }
 {
-    match reads::get_words(array, entries, index, sizes, key) {
-        GotWords::Value(v) => Reply::Got(v),
-        GotWords::No(n) => Reply::Fault(n),
+    Reply::Fault(u8::from(refusal))
+}
+
+fn stepped(next: Next<Words>) -> Reply
+    ensures { result ≡ next_reply next }
+{
+    match next {
+        Next::Found(k, v) => Reply::Found(k, v),
+        Next::Last => Reply::Last,
+        Next::NotFound => Reply::NotFound,
     }
 }
 
-fn answer_length(array: &[u64], entries: &[u64], index: &[Word], sizes: Record) -> Reply
-    ensures { Answers (store_of array.now entries.now index.now sizes) Length (store_of array.now entries.now index.now sizes) result }
-{
-    match reads::length(array, entries, index, sizes) {
-        Measured::Length(n) => Reply::Length(n),
-        Measured::No(n) => Reply::Fault(n),
-    }
-}
-
-fn answer_next(array: &[u64], entries: &[u64], index: &[Word], sizes: Record, key: Words) -> Reply
-    ensures { Answers (store_of array.now entries.now index.now sizes) (Next key) (store_of array.now entries.now index.now sizes) result }
-{
-    match reads::next_words(array, entries, index, sizes, key) {
-        NextWords::Found(k, v) => Reply::Found(k, v),
-        NextWords::Last => Reply::Last,
-        NextWords::NotFound => Reply::NotFound,
-        NextWords::No(n) => Reply::Fault(n),
-    }
-}
-
+// A refusal answers Nil for the previous value, and leaves the record that was passed.
 fn answer_set(
     array: &mut [u64],
     entries: &mut [u64],
@@ -57,17 +45,14 @@ fn answer_set(
     key: Words,
     v: Words,
 ) -> Answered
-    ensures { Answers (store_of array.old entries.old index.old sizes) (Set key v) (store_of array.new entries.new index.new result.sizes) result.reply }
+    ensures { Answers (store_of array.old entries.old index.old sizes) (Request.Set key v) (store_of array.new entries.new index.new result.sizes) result.reply }
 {
-    match writes::set_words(array, entries, index, sizes, key, v) {
-        SetWords::Done(previous, left) => Answered {
-            reply: Reply::Set(0, previous),
-            sizes: left,
-        },
-        SetWords::No(n) => Answered {
-            reply: Reply::Set(n, value::nil()),
-            sizes: sizes,
-        },
+    let set = writes::set_words(array, entries, index, sizes, key, v);
+    let number = value::answer_number(&set);
+    let (previous, after) = set.unwrap_or((Words::NIL, sizes));
+    Answered {
+        reply: Reply::Set(number, previous),
+        sizes: after,
     }
 }
 
@@ -78,17 +63,12 @@ fn answer_reserve(
     sizes: Record,
     n: u64,
 ) -> Answered
-    ensures { Answers (store_of array.old entries.old index.old sizes) (Reserve n) (store_of array.new entries.new index.new result.sizes) result.reply }
+    ensures { Answers (store_of array.old entries.old index.old sizes) (Request.Reserve n) (store_of array.new entries.new index.new result.sizes) result.reply }
 {
-    match writes::reserve(array, entries, index, sizes, n as usize) {
-        Reserved::Done(after) => Answered {
-            reply: Reply::Reserved(0),
-            sizes: after,
-        },
-        Reserved::No(m) => Answered {
-            reply: Reply::Reserved(m),
-            sizes: sizes,
-        },
+    let reserved = writes::reserve(array, entries, index, sizes, n as usize);
+    Answered {
+        reply: Reply::Reserved(value::answer_number(&reserved)),
+        sizes: reserved.unwrap_or(sizes),
     }
 }
 
@@ -101,20 +81,18 @@ pub fn answer(
 ) -> Answered
     ensures { Answers (store_of array.old entries.old index.old sizes) request (store_of array.new entries.new index.new result.sizes) result.reply }
 {
-    match request {
-        Request::Get(key) => Answered {
-            reply: answer_get(array, entries, index, sizes, key),
-            sizes: sizes,
-        },
-        Request::Set(key, v) => answer_set(array, entries, index, sizes, key, v),
-        Request::Length => Answered {
-            reply: answer_length(array, entries, index, sizes),
-            sizes: sizes,
-        },
-        Request::Next(key) => Answered {
-            reply: answer_next(array, entries, index, sizes, key),
-            sizes: sizes,
-        },
-        Request::Reserve(n) => answer_reserve(array, entries, index, sizes, n),
-    }
+    let view = View {
+        array,
+        entries,
+        index,
+        sizes,
+    };
+    let reply = match request {
+        Request::Set(key, v) => return answer_set(array, entries, index, sizes, key, v),
+        Request::Reserve(n) => return answer_reserve(array, entries, index, sizes, n),
+        Request::Get(key) => reads::get_words(&view, key).map_or_else(refused, Reply::Got),
+        Request::Length => reads::length(&view).map_or_else(refused, Reply::Length),
+        Request::Next(key) => reads::next_words(&view, key).map_or_else(refused, stepped),
+    };
+    Answered { reply, sizes }
 }

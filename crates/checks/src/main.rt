@@ -3,23 +3,25 @@
 // that of a write, and ends the run.
 #![tactic(auto)]
 
-ghost use Rattle.std.specs.Prelude.{◌≡◌, ◌+◌, ◌%◌, ◌<◌, ◌≤◌, min, length, get_or, IfOk};
+ghost use Rattle.std.specs.Prelude.{◌≡◌, ℕ, ◌+◌, ◌%◌, ◌<◌, ◌≤◌, length, get_or, IfSome};
 ghost use Rattle.lent.specs.Lent.{ZeroFrom};
 ghost use Rattle.lent.specs.Says.{Says};
 ghost use Rattle.console.specs.Input.{word_room, Holds};
-ghost use Rattle.checks.specs.Marks.{mark_of, Marked};
+ghost use Rattle.checks.specs.Marks.{mark_of, MarkedBy, Marked};
+ghost use Rattle.checks.specs.Tasks.{index_words, ReadsStore};
 
 use index::Word;
 use std::io;
-use store::{Made, Record};
+use store::{Record, View};
+use value::Refusal;
 
 // An index has 16-bit words, and its words in the input are below 2^16.
 fn read_index(words: &[u64], index: &mut [Word])
     requires { length words.now ≤ length index.old }
     ensures { Holds (λ i. get_or words.now i 0 % 65536) (length words.now) index.new }
 {
-    for i in 0..words.len() {
-        index[i] = (words[i] % 65536) as Word;
+    for (i, word) in words.iter().enumerate() {
+        index[i] = (word % 65536) as Word;
     }
 }
 
@@ -30,96 +32,45 @@ fn mark(i: usize) -> Word
     (1 + i % 65535) as Word
 }
 
-fn mark_words(words: &mut [u64])
-    ensures { Marked words.new }
+fn mark_words<T: Copy + From<Word>>(words: &mut [T])
+    ensures { MarkedBy T.from_gives (length words.new) words.new }
 {
-    for i in 0..words.len() {
-        words[i] = mark(i) as u64;
-    }
-}
-
-fn mark_index(index: &mut [Word])
-    ensures { Marked index.new }
-{
-    for i in 0..index.len() {
-        index[i] = mark(i);
+    for (i, word) in words.iter_mut().enumerate() {
+        *word = T::from(mark(i));
     }
 }
 
 fn are_marked(words: &[u64]) -> bool
     ensures { Says result (Marked words.now) }
 {
-    for i in 0..words.len() {
-        if words[i] != mark(i) as u64 {
-            return false;
-        }
-    }
-    true
-}
-
-fn is_index_marked(index: &[Word]) -> bool
-    ensures { Says result (Marked index.now) }
-{
-    for i in 0..index.len() {
-        if index[i] != mark(i) {
-            return false;
-        }
-    }
-    true
-}
-
-fn is_index_zero(index: &[Word]) -> bool
-    ensures { Says result (ZeroFrom 0 index.now) }
-{
-    for i in 0..index.len() {
-        if index[i] != 0 {
-            return false;
-        }
-    }
-    true
+    words
+        .iter()
+        .enumerate()
+        .all(|(i, word)| *word == u64::from(mark(i)))
 }
 
 // Whether every word is 0, as in a fresh store.
-fn are_zero(array: &[u64], entries: &[u64], index: &[Word]) -> bool
-    ensures { Says result ((ZeroFrom 0 array.now) × (ZeroFrom 0 entries.now) × (ZeroFrom 0 index.now)) }
+fn are_zero(view: &View) -> bool
+    ensures { Says result ((ZeroFrom 0 view.now.array.now) × (ZeroFrom 0 view.now.entries.now) × (ZeroFrom 0 view.now.index.now)) }
 {
-    if !lent::all_zero(array, 0) {
-        return false;
-    }
-    if !lent::all_zero(entries, 0) {
-        return false;
-    }
-    is_index_zero(index)
+    lent::all_zero(view.array, 0)
+        && lent::all_zero(view.entries, 0)
+        && view.index.iter().all(|word| *word == 0)
 }
 
 // Whether every word is as it was before `fresh`.
 fn are_unchanged(array: &[u64], entries: &[u64], index: &[Word]) -> bool
     ensures { Says result (Marked array.now × Marked entries.now × Marked index.now) }
 {
-    if !are_marked(array) {
-        return false;
-    }
-    if !are_marked(entries) {
-        return false;
-    }
-    is_index_marked(index)
+    are_marked(array)
+        && are_marked(entries)
+        && index.iter().enumerate().all(|(i, word)| *word == mark(i))
 }
 
-fn show_made(
-    rt: &impl Print,
-    array: &[u64],
-    entries: &[u64],
-    index: &[Word],
-    sizes: Record,
-) -> io::Result<()> {
-    if are_zero(array, entries, index) {
-        print!(rt; "fresh 0 zero")?;
-    } else {
-        print!(rt; "fresh 0 not zero")?;
-    }
-    console::show_sizes(rt, sizes)?;
-    print!(rt; " ")?;
-    console::show_check(rt, array, entries, index, sizes)
+fn show_made(rt: &impl Print, view: &View) -> io::Result<()> {
+    let words = if are_zero(view) { "zero" } else { "not zero" };
+    print!(rt; "fresh 0 {words} {} ", view.sizes)?;
+    console::show_check(rt, view)
 }
 
 // The check is shown zeros there, so that nothing but the lengths is at fault.
@@ -128,26 +79,24 @@ fn show_refused(
     array: &mut [u64],
     entries: &mut [u64],
     index: &mut [Word],
-    refusal: u8,
+    refusal: Refusal,
 ) -> io::Result<()> {
-    print!(rt; "fresh {refusal}")?;
-    if are_unchanged(array, entries, index) {
-        print!(rt; " unchanged ")?;
+    let words = if are_unchanged(array, entries, index) {
+        "unchanged"
     } else {
-        print!(rt; " changed ")?;
-    }
-    lent::clear(array);
-    lent::clear(entries);
-    index::clear(index);
+        "changed"
+    };
+    print!(rt; "fresh {} {words} ", u8::from(refusal))?;
+    array.fill(0);
+    entries.fill(0);
+    index.fill(0);
     console::show_check(
         rt,
-        array,
-        entries,
-        index,
-        Record {
-            size: 0,
-            allowance: 0,
-            count: 0,
+        &View {
+            array,
+            entries,
+            index,
+            sizes: Record::FRESH,
         },
     )
 }
@@ -160,150 +109,161 @@ fn show_fresh(
 ) -> io::Result<()> {
     mark_words(array);
     mark_words(entries);
-    mark_index(index);
+    mark_words(index);
     match store::fresh(array, entries, index) {
-        Made::Store(sizes) => show_made(rt, array, entries, index, sizes),
-        Made::No(refusal) => show_refused(rt, array, entries, index, refusal),
+        Ok(sizes) => show_made(
+            rt,
+            &View {
+                array,
+                entries,
+                index,
+                sizes,
+            },
+        ),
+        Err(refusal) => show_refused(rt, array, entries, index, refusal),
     }
 }
 
-// Of a part with a start, as `0..`, the length is known; of one without, it is to be proved.
-fn fresh_in_room(rt: &impl Print, array: usize, entries: usize, index: usize) -> io::Result<()>
-    requires { (array ≤ word_room) × (entries ≤ word_room) × (index ≤ word_room) }
-{
-    let mut array_words = console::word_room();
-    let mut entry_words = console::word_room();
-    let mut index_words = console::index_room();
-    show_fresh(
-        rt,
-        &mut array_words[0..array],
-        &mut entry_words[0..entries],
-        &mut index_words[0..index],
-    )
-}
-
-fn fresh_of(rt: &impl Print, array: usize, entries: usize, index: usize) -> io::Result<()> {
-    if console::ROOM < array || console::ROOM < entries || console::ROOM < index {
-        return println!(rt; "fresh too long");
-    }
-    fresh_in_room(rt, array, entries, index)
-}
-
-// Three lengths. As for each kind of record, the answer is where the record ends.
-fn fresh_record(rt: &impl Print, words: &[u64], at: usize) -> io::Result<usize>
-    requires { at ≤ length words.now }
-    ensures { IfOk result (λ end. (at ≤ end) × (end ≤ length words.now)) }
-{
-    if words.len() - at < 3 {
-        return console::cut(rt, words);
-    }
-    fresh_of(
-        rt,
-        words[at] as usize,
-        words[at + 1] as usize,
-        words[at + 2] as usize,
-    )?;
-    Ok(at + 3)
-}
-
-// Where so many words from a place on end: with the input, where it has fewer.
-fn end_of(words: &[u64], at: usize, count: u64) -> usize
-    requires { at ≤ length words.now }
-    ensures within { (at ≤ result) × (result ≤ length words.now) }
-    ensures sum { result ≡ min (at + count) (length words.now) }
-{
-    if ((words.len() - at) as u64) < count {
-        return words.len();
-    }
-    at + count as usize
-}
-
-fn check_of(
-    rt: &impl Print,
-    array: &[u64],
-    entries: &[u64],
-    index: &[u64],
+// A store as it stands in the input, where its index has 64-bit words too.
+#[derive(Clone, Copy)]
+struct Stored<'a> {
+    array: &'a [u64],
+    entries: &'a [u64],
+    index: &'a [u64],
     sizes: Record,
-) -> io::Result<()>
-    requires { length index.now ≤ word_room }
-{
-    let mut index_words = console::index_room();
-    read_index(index, &mut index_words);
-    let n = index.len();
-    console::show_check(rt, array, entries, &index_words[0..n], sizes)
 }
 
-// The places where the words of the three slices begin, and where they end.
-fn check_at(
-    rt: &impl Print,
-    words: &[u64],
-    array: usize,
-    entries: usize,
-    index: usize,
-    end: usize,
-    sizes: Record,
-) -> io::Result<()>
-    requires { (array ≤ entries) × (entries ≤ index) × (index ≤ end) × (end ≤ length words.now) × (length words.now ≤ word_room) }
-{
-    check_of(
-        rt,
-        &words[array..entries],
-        &words[entries..index],
-        &words[index..end],
-        sizes,
-    )
+// What a record asks for.
+#[derive(Clone, Copy)]
+enum Task<'a> {
+    Check(Stored<'a>),
+    // in slices of these lengths
+    Fresh {
+        array: usize,
+        entries: usize,
+        index: usize,
+    },
+    Unknown,
 }
 
-// Three lengths, the record's three numbers, and then the words of the three slices.
-fn check_record(rt: &impl Print, words: &[u64], at: usize) -> io::Result<usize>
-    requires { (at ≤ length words.now) × (length words.now ≤ word_room) }
-    ensures { IfOk result (λ end. (at ≤ end) × (end ≤ length words.now)) }
+// The store at the start of the input: three lengths, the record's three numbers, and the words of the three slices. What follows it is
+// answered beside it; none, where the input ends within it.
+fn read_store(words: &[u64]) -> Option<(Stored<'_>, &[u64])>
+    ensures parts { IfSome result (λ r. ReadsStore words.now r.0 r.1.now) }
+    ensures within { IfSome result (λ r. (length r.0.index.now ≤ length words.now) × (length r.1.now ≤ length words.now)) }
 {
-    if words.len() - at < 6 {
-        return console::cut(rt, words);
-    }
-    let array = at + 6;
-    let entries = end_of(words, array, words[at]);
-    let index = end_of(words, entries, words[at + 1]);
-    let end = end_of(words, index, words[at + 2]);
-    if ((entries - array) as u64) < words[at]
-        || ((index - entries) as u64) < words[at + 1]
-        || ((end - index) as u64) < words[at + 2]
-    {
-        return console::cut(rt, words);
-    }
-    let sizes = console::sizes_at(words, at + 3);
-    check_at(rt, words, array, entries, index, end, sizes)?;
-    Ok(end)
+    let (&[array, entries, index, size, allowance, count], rest) = words.split_first_chunk::<6>()?;
+    let (array, rest) = rest.split_at_checked(array as usize)?;
+    let (entries, rest) = rest.split_at_checked(entries as usize)?;
+    let (index, rest) = rest.split_at_checked(index as usize)?;
+    let sizes = Record {
+        size: size as usize,
+        allowance: allowance as usize,
+        count: count as usize,
+    };
+    Some((
+        Stored {
+            array,
+            entries,
+            index,
+            sizes,
+        },
+        rest,
+    ))
 }
 
-// A record is its kind and what belongs to it; of an unknown kind, the kind alone.
-fn record_at(rt: &impl Print, words: &[u64], at: usize) -> io::Result<usize>
-    requires { (at < length words.now) × (length words.now ≤ word_room) }
-    ensures { IfOk result (λ end. (at < end) × (end ≤ length words.now)) }
+// The record at the start of the input: its kind and what belongs to it; of an unknown kind, the kind alone. What follows it is answered
+// likewise.
+fn read_task(words: &[u64]) -> Option<(Task<'_>, &[u64])>
+    ensures within { IfSome result (λ r. index_words r.0 ≤ length words.now) }
+    ensures further { IfSome result (λ r. length r.1.now < length words.now) }
 {
-    match words[at] {
-        1 => check_record(rt, words, at + 1),
-        2 => fresh_record(rt, words, at + 1),
-        _ => {
-            println!(rt; "unknown")?;
-            Ok(at + 1)
+    let (kind, rest) = words.split_first()?;
+    match kind {
+        1 => {
+            let (stored, rest) = read_store(rest)?;
+            Some((Task::Check(stored), rest))
         }
+        2 => {
+            let (&[array, entries, index], rest) = rest.split_first_chunk::<3>()?;
+            let task = Task::Fresh {
+                array: array as usize,
+                entries: entries as usize,
+                index: index as usize,
+            };
+            Some((task, rest))
+        }
+        _ => Some((Task::Unknown, rest)),
     }
 }
 
-fn run(rt: &impl Print, words: &[u64]) -> io::Result<()>
+fn check(rt: &impl Print, stored: Stored) -> io::Result<()>
+    requires { length stored.index.now ≤ word_room }
+{
+    let Stored {
+        array,
+        entries,
+        index,
+        sizes,
+    } = stored;
+    let mut index_words: [Word; console::ROOM] = lent::room();
+    read_index(index, &mut index_words);
+    let index = &index_words[..index.len()];
+    console::show_check(
+        rt,
+        &View {
+            array,
+            entries,
+            index,
+            sizes,
+        },
+    )
+}
+
+fn fresh(rt: &impl Print, array: usize, entries: usize, index: usize) -> io::Result<()> {
+    let mut array_words: [u64; console::ROOM] = lent::room();
+    let mut entry_words: [u64; console::ROOM] = lent::room();
+    let mut index_words: [Word; console::ROOM] = lent::room();
+    let (Some(array), Some(entries), Some(index)) = (
+        array_words.get_mut(..array),
+        entry_words.get_mut(..entries),
+        index_words.get_mut(..index),
+    ) else {
+        return println!(rt; "fresh too long");
+    };
+    show_fresh(rt, array, entries, index)
+}
+
+fn perform(rt: &impl Print, task: Task) -> io::Result<()>
+    requires { index_words task ≤ word_room }
+{
+    match task {
+        Task::Check(stored) => check(rt, stored),
+        Task::Fresh {
+            array,
+            entries,
+            index,
+        } => fresh(rt, array, entries, index),
+        Task::Unknown => println!(rt; "unknown"),
+    }
+}
+
+fn run(rt: &impl Print, mut words: &[u64]) -> io::Result<()>
     requires { length words.now ≤ word_room }
 {
-    let mut at = 0usize;
-    while at < words.len() {
-        at = record_at(rt, words, at)?;
+    while !words.is_empty() {
+        let Some((next, rest)) = read_task(words) else {
+            console::cut(rt, words)?;
+            break;
+        };
+        perform(rt, next)?;
+        words = rest;
     }
     Ok(())
 }
 
 fn main(rt: HostRuntime) -> io::Result<()> {
-    let mut words = console::word_room();
+    let mut words: [u64; console::ROOM] = lent::room();
     let count = console::read_input(&rt, &mut words)?;
-    run(&rt, &words[0..count])
+    run(&rt, &words[..count])
 }

@@ -15,20 +15,18 @@ use Rattle.original.specs.Runs.{Call, Answer, was, Run, says, told, ours, Roomy,
 use Rattle.original.specs.Agreement.{Agree}
 use Rattle.original.proofs.Demand2.{demand2 as model-agrees}
 use Rattle.store.specs.declared.Record.{Record}
-use Rattle.store.specs.declared.Made.TheVariants.{Store as Stored}
 use Rattle.store.specs.Store.{Slices, Store, store, lengths_of, room_of, room_for}
 use Rattle.store.specs.Written.{Sound, table_of}
 use Rattle.store.specs.Fresh.{FreshMade}
 use Rattle.store.proofs.Views.{table-written}
 use Rattle.store.proofs.Sound.{sound-formed, sound-shaped}
 use Rattle.store.proofs.Unique.{fresh-made-sound}
-use Rattle.reads.specs.declared.GotWords.TheVariants.{Value}
-use Rattle.reads.specs.declared.Measured.TheVariants.{Length}
 use Rattle.reads.proofs.Unique.{get-done, length-done}
 use Rattle.writes.specs.Writes.{Left, Promised}
 use Rattle.demands.specs.Calls.{got_answer, left_answer, Called, none, got, wrote, reserved, Listed, end, more, Agrees}
 use Rattle.table.specs.Stays.{Stays}
 use Rattle.table.proofs.Outcomes.{refusal_is, previous-is, table_is, set-stays, reserve-stays}
+use Rattle.std.specs.Prelude.{Ok}
 
 -- ---- calls on a store are calls on its table
 -- what a run of the table says, and the table that it ends in, are said and held here
@@ -51,9 +49,9 @@ called S a (got key r p m) =
     let rest = called S a.1 m in
     (rest.0, ap₂ {C = List Answer} (λ x y. x ∷ y) (ap got_answer (get-done _ key r p S a.0)) rest.1, rest.2)
 called S a (wrote {cs = cs} key v after r p m) =
-    let n = set-stays key v S p.1 in wrote-first cs S p.1 n (called n.sound a.1 m)
+    let n = set-stays key v S p in wrote-first cs S p n (called n.sound a.1 m)
 called S a (reserved {cs = cs} k after r p m) =
-    let n = reserve-stays k S p.1 in wrote-first cs S p.1 n (called n.sound a.1 m)
+    let n = reserve-stays k S p in wrote-first cs S p n (called n.sound a.1 m)
 
 -- ---- what agrees of the table agrees of the store
 module _ {u : Store} (U : Sound u) where
@@ -71,13 +69,13 @@ module _ {u : Store} (U : Sound u) where
   agrees g =
       record {
         sound = U;
-        gets = λ key a d p. get-done _ key a p U d ∙ ap Value (g.gets key d);
+        gets = λ key a d p. get-done _ key a p U d ∙ ap Ok (g.gets key d);
         walks = λ l m p q. g.walks l m (listed-lists p) q;
         ends = (g.end.0, g.end.1, lists-listed nil-decodes g.end.2, g.end.3);
-        lengths = λ a b c p. length-done _ a p U ∙ ap Length (g.lengths b c);
+        lengths = λ a b c p. length-done _ a p U ∙ ap Ok (g.lengths b c);
       }
 
-pub demand2 : (before after : Slices) (r : Record) → FreshMade before after (Stored r) → (addresses : Addresses) (cs : List Call) → Each Comparable cs
+pub demand2 : (before after : Slices) (r : Record) → FreshMade before after (Ok r) → (addresses : Addresses) (cs : List Call) → Each Comparable cs
     → (xs : List Answer) (u : Store) → Called (store after r) cs xs u → Roomy xs → (ys : List Answer) (o : Original) → Runs addresses new cs ys o → (xs ≡ ys) × Agrees addresses u o
 demand2 before after r f addresses cs a xs u m y ys o runs =
     let s : Store = store after r in

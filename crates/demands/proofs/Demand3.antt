@@ -8,7 +8,6 @@ use Rattle.value.specs.declared.Words.{Words}
 use Rattle.value.specs.Encoding.{decodes, Decodes}
 use Rattle.value.specs.Same.{is_nil}
 use Rattle.value.proofs.Cases.{caseb, clash}
-use Rattle.key.specs.Refusals.{no_value}
 use Rattle.model.specs.Entries.{Entry}
 use Rattle.model.specs.Table.{get_of}
 use Rattle.model.specs.Calls.{set_of}
@@ -18,12 +17,13 @@ use Rattle.walk.proofs.Walk.{walk}
 use Rattle.store.specs.Store.{Store, lengths_of, room_of, room_for}
 use Rattle.store.specs.Written.{Sound, table_of}
 use Rattle.store.proofs.Sound.{sound-formed, sound-shaped}
-use Rattle.reads.specs.declared.GotWords.TheVariants.{Value, No}
-use Rattle.reads.specs.declared.NextWords.TheVariants.{Found}
 use Rattle.reads.specs.Reads.{in_words, NextAnswers}
 use Rattle.reads.proofs.Unique.{get-done, next-done}
 use Rattle.demands.specs.Walks.{Walking, begin, still, set, step, Has, Throughout, StoreWalked}
 use Rattle.table.proofs.Outcomes.{is_get, table_is, set-stays}
+use Rattle.std.specs.Prelude.{Ok, Err}
+use Rattle.reads.specs.declared.Next.TheVariants.{Found}
+use Rattle.value.specs.declared.refusal.Refusal.TheVariants.{NoValue}
 
 -- a walk on a store as a history of its table; the key that it goes on from is a value's
 record Follows (s₀ s : Store) (allowed : List Words) (key : Words) (handed : List Entry) (Through : Words → Type 0) : Type 0 where
@@ -34,9 +34,9 @@ record Follows (s₀ s : Store) (allowed : List Words) (key : Words) (handed : L
   through : (j : Words) → Through j → ThroughHistory history j
 
 has_value : {s : Store} → Sound s → (j : Words) → Has s j → is_nil (get_of (table_of s) j) ≡ false
-has_value {s = s} S j h = caseb (decodes j) (λ d. h (Value _) (is_get S j d)) (λ d. absurd (h (No no_value) (inr (sound-shaped s S, d, refl))))
+has_value {s = s} S j h = caseb (decodes j) (λ d. h (Ok _) (is_get S j d)) (λ d. absurd (h (Err NoValue) (inr (sound-shaped s S, d, refl))))
 
-found-decodes : {s : Store} → Sound s → (key k v : Words) → NextAnswers s key (Found k v) → Decodes k
+found-decodes : {s : Store} → Sound s → (key k v : Words) → NextAnswers s key (Ok (Found k v)) → Decodes k
 found-decodes {s = s} S key k v n = (next-decodes (room_for s) (table_of s) key k v (sound-formed s S) (n.2 S)).0
 
 follows : {s₀ s : Store} {allowed : List Words} {key : Words} {handed : List Entry} → Sound s₀ → (w : Walking s₀ s allowed key handed)
@@ -46,12 +46,12 @@ follows {s₀ = s₀} {allowed = allowed} {key = key} {handed = handed} S (still
     subst (λ (x : Store). Follows s₀ x allowed key handed (Throughout w)) (sym e) (follows S w)
 follows S (set {s = s} k v after r p m w) =
     let f = follows S w in
-    let n = set-stays k v f.sound p.1 in
+    let n = set-stays k v f.sound p in
     record {
       sound = n.sound;
       lengths = n.lengths ∙ f.lengths;
       keyed = f.keyed;
-      history = sets k v m (table_is f.sound p.1 ∙ (λ j. (set_of (room_of (f.lengths j)) (table_of s) k v).table)) f.history;
+      history = sets k v m (table_is f.sound p ∙ (λ j. (set_of (room_of (f.lengths j)) (table_of s) k v).table)) f.history;
       through = λ j a. (has_value n.sound j a.0, f.through j a.1);
     }
 follows S (step {key = key} k v n w) =
@@ -69,8 +69,8 @@ demand3 {s₀ = s₀} {s = s} {key = key} S w =
       there = λ p. m.there (p.2 T);
       answered = λ n p. elim p [ inl a ↦ a.0 (sound-shaped s T) | inr a ↦ clash f.keyed a.1 ];
       once = m.once;
-      shows = λ k v p. let x = m.shows k v (p.2 T) in (λ a g. get-done _ k a g T (found-decodes T key k v p) ∙ ap Value x.0, x.1, x.2);
+      shows = λ k v p. let x = m.shows k v (p.2 T) in (λ a g. get-done _ k a g T (found-decodes T key k v p) ∙ ap Ok x.0, x.1, x.2);
       few = m.few;
-      ends = λ a e p. next-done _ key a p T f.keyed ∙ ap in_words (m.ends e);
+      ends = λ a e p. next-done _ key a p T f.keyed ∙ ap (λ n. Ok (in_words n)) (m.ends e);
       all = λ p j k c t. m.all (p.2 T) j k c (f.through j t);
     }

@@ -15,15 +15,16 @@ use Rattle.model.specs.Calls.{Outcome}
 use Rattle.model.specs.Settles.{key_at, KeepsPlaces, Settles}
 use Rattle.model.proofs.Entries.{length-tabulate, tabulate-at, tabulate-each, map-tabulate}
 use Rattle.model.proofs.Settles.{set-settles, reserve-settles}
+use Rattle.store.specs.declared.Record.{Record}
 use Rattle.store.specs.Store.{Slices, Store, room_for}
 use Rattle.store.specs.Written.{Sound, entry_at, table_of}
 use Rattle.store.proofs.Views.{length-entries}
 use Rattle.store.proofs.Sound.{sound-formed}
-use Rattle.writes.specs.declared.SetWords.{SetWords}
-use Rattle.writes.specs.declared.Reserved.{Reserved}
 use Rattle.writes.specs.Writes.{Left, set_left, reserve_left, Promised, SetDone, ReserveDone}
 use Rattle.demands.specs.Places.{StaysPut, LeavesPlaces, SetLeavesPlaces, ReserveLeavesPlaces}
 use Rattle.table.proofs.Outcomes.{refusal_is, table_is}
+use Rattle.std.specs.Prelude.{Result}
+use Rattle.value.specs.declared.refusal.Refusal.{Refusal}
 
 -- ---- a store's table, by its words
 length-array : (s : Store) → length (table_of s).array ≡ s.sizes.size
@@ -60,8 +61,8 @@ leaves-places {s = s} {o = o} {l = l} S p w =
           not-true _ (live-words l.store (subst (λ (t : Table). Each (λ x. live x ≡ true) t.entries) (sym (table_is S p)) (w.drops c (sym (refusal_is S p) ∙ z))) i h);
     }
 
-pub set-places : (s : Store) (key v : Words) (after : Slices) (r : SetWords) → Sound s → SetDone s key v after r → SetLeavesPlaces s key v (set_left s.sizes after r)
-set-places s key v after r S p = leaves-places S p.1 (set-settles (room_for s) (table_of s) key v (sound-formed s S))
+pub set-places : (s : Store) (key v : Words) (after : Slices) (r : Result (Words × Record) Refusal) → Sound s → SetDone s key v after r → SetLeavesPlaces s key v (set_left s.sizes after r)
+set-places s key v after r S p = leaves-places S p (set-settles (room_for s) (table_of s) key v (sound-formed s S))
 
-pub reserve-places : (s : Store) (n : ℕ) (after : Slices) (r : Reserved) → Sound s → ReserveDone s n after r → ReserveLeavesPlaces s n (reserve_left s.sizes after r)
-reserve-places s n after r S p = leaves-places S p.1 (reserve-settles (room_for s) (table_of s) n)
+pub reserve-places : (s : Store) (n : ℕ) (after : Slices) (r : Result Record Refusal) → Sound s → ReserveDone s n after r → ReserveLeavesPlaces s n (reserve_left s.sizes after r)
+reserve-places s n after r S p = leaves-places S p (reserve-settles (room_for s) (table_of s) n)

@@ -1,16 +1,15 @@
 -- The demands over the calls for C: what any row of them leaves, and demand 3 over `amzighrod_next`. Assumes nothing.
-use Rattle.std.specs.Prelude.{◌≡◌, true, false, List, ◌⊎◌, ℕ, length}
+use Rattle.std.specs.Prelude.{◌≡◌, true, false, List, ◌⊎◌, ℕ, length, Ok}
 use Rattle.value.specs.declared.Words.{Words}
 use Rattle.value.specs.Same.{is_nil}
-use Rattle.key.specs.declared.CanonicalKey.TheVariants.{Key}
 use Rattle.key.specs.Canonical.{canonical_key}
 use Rattle.model.specs.Entries.{Entry, keys_of, member}
 use Rattle.walk.specs.Walked.{at_start}
 use Rattle.store.specs.Store.{Store}
 use Rattle.store.specs.Written.{table_of}
-use Rattle.reads.specs.declared.NextWords.TheVariants.{Found}
 use Rattle.reads.specs.Reads.{NextAnswers}
 use Rattle.host.specs.Host.{FreshGives, GetGives, SetGives, NextGives, ReserveGives}
+use Rattle.reads.specs.declared.Next.TheVariants.{Found}
 
 -- calls of a host in C, one after the other, on the slices and the record that the one before left: whatever it passes, and whatever number
 -- comes back. The calls that read are lent what they look at and may come anywhere
@@ -26,7 +25,7 @@ pub record HostWalked (s₀ s : Store) (key : Words) (handed : List Entry) (Thro
   -- never 2, NotFound, and never a refusal
   pub numbers : (before after : Entry) (r : ℕ) → before.key ≡ key → NextGives s before after r → (r ≡ 0) ⊎ (r ≡ 1)
   -- a pair is the one that `next` hands out: the walk goes on from its key
-  pub on : (before after : Entry) → before.key ≡ key → NextGives s before after 0 → NextAnswers s key (Found after.key after.value)
+  pub on : (before after : Entry) → before.key ≡ key → NextGives s before after 0 → NextAnswers s key (Ok (Found after.key after.value))
   -- it shows the value held at that moment, never Nil, and its key is new
   pub shows : (before after : Entry) → before.key ≡ key → NextGives s before after 0
       → ((x y : Words) (r : ℕ) → GetGives s after.key x y r → (r ≡ 0) × (y ≡ after.value)) × (is_nil after.value ≡ false) × (member (keys_of handed) after.key ≡ false)
@@ -34,4 +33,4 @@ pub record HostWalked (s₀ s : Store) (key : Words) (handed : List Entry) (Thro
   pub ends : (before after : Entry) (r : ℕ) → before.key ≡ key → length handed ≡ at_start (table_of s₀) → NextGives s before after r → r ≡ 1
   -- at Last nothing is written, and each key with a value throughout has come
   pub all : (before after : Entry) → before.key ≡ key → NextGives s before after 1
-      → (after ≡ before) × ((j k : Words) → canonical_key j ≡ Key k → Through j → member (keys_of handed) k ≡ true)
+      → (after ≡ before) × ((j k : Words) → canonical_key j ≡ Ok k → Through j → member (keys_of handed) k ≡ true)

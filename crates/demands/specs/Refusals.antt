@@ -2,7 +2,7 @@
 -- Assumes nothing.
 use Rattle.std.specs.Prelude.{◌≡◌, ℕ}
 use Rattle.value.specs.declared.Words.{Words}
-use Rattle.key.specs.Refusals.{no_room}
+use Rattle.value.specs.Refusals.{no_room}
 use Rattle.model.specs.Refused.{Refused, NoSpace}
 use Rattle.store.specs.Store.{Store, room_for}
 use Rattle.store.specs.Written.{table_of}

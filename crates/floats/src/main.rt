@@ -3,9 +3,8 @@
 // and ends the run.
 #![tactic(auto)]
 
-use key::{ArrayIndex, CanonicalKey};
 use std::io;
-use value::Words;
+use value::{Value, Words};
 
 const PATTERNS: [u64; 77] = [
     // Zeros, halves, small whole numbers.
@@ -99,33 +98,29 @@ const PATTERNS: [u64; 77] = [
 
 fn show_index(rt: &impl Print, key: Words) -> io::Result<()> {
     match key::array_index(key) {
-        ArrayIndex::At(index) => {
+        Some(index) => {
             let class = key::highest_bit(index);
             print!(rt; " index {index:016x} class {class}")
         }
-        ArrayIndex::Nothing => print!(rt; " index none"),
+        None => print!(rt; " index none"),
     }
 }
 
 fn show_key(rt: &impl Print, key: Words) -> io::Result<()> {
-    let kind = match key.kind {
-        2 => "Integer",
-        3 => "Number",
+    let kind = match Value::or_nil(key) {
+        Value::Integer(_) => "Integer",
+        Value::Number(_) => "Number",
         _ => "neither",
     };
-    let payload = key.payload;
-    print!(rt; " {kind} {payload:016x}")?;
+    print!(rt; " {kind} {:016x}", key.payload)?;
     show_index(rt, key)
 }
 
 fn show(rt: &impl Print, pattern: u64) -> io::Result<()> {
     print!(rt; "{pattern:016x}")?;
-    match key::canonical_key(Words {
-        kind: 3,
-        payload: pattern,
-    }) {
-        CanonicalKey::Key(key) => show_key(rt, key)?,
-        CanonicalKey::No(refusal) => print!(rt; " refused {refusal}")?,
+    match key::canonical_key(Words::new(3, pattern)) {
+        Ok(key) => show_key(rt, key)?,
+        Err(refusal) => print!(rt; " refused {}", u8::from(refusal))?,
     }
     println!(rt; "")
 }

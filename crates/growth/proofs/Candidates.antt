@@ -1,14 +1,10 @@
 -- The candidates of growth, counted in three steps from zeros: the new key, the array's values, and the entries (01, 'Growth', step 1).
 -- Assumes nothing.
-use mathlib.Core.Path.{◌≡◌, refl, ap, ◌∙◌}
-use mathlib.Core.List.{List, [], ◌++◌}
-use Prim.Native.Nat.{ℕ, ◌+◌, ◌/◌, ◌≤◌, max}
-use native.Mathlib.Omega.{arith}
-use lib.ListN.{length, replicate}
+use Rattle.std.proofs.Common.{◌≡◌, ℕ, ◌+◌, ◌/◌, ◌≤◌, max, List, [], ◌++◌, length, replicate, refl, ap, ◌∙◌, arith}
+use Rattle.std.proofs.lemmas.Grind.{common_steps}
 use Rattle.value.specs.declared.Words.{Words}
 use Rattle.key.specs.Canonical.{array_index}
 use Rattle.lent.specs.Lent.{value_at}
-use Rattle.lent.proofs.Lent.{zero-at}
 use Rattle.model.specs.Table.{Table, array_pairs, pairs}
 use Rattle.model.specs.Growth.{with_index, indices, candidates, count_below, best, optimal_size, tabulate}
 use Rattle.model.proofs.Places.{array-tabulate}
@@ -24,14 +20,14 @@ use Rattle.growth.proofs.Turns.{firsts-le}
 candidates-are : (t : Table) (k : Words) → candidates t k ≡ with_index (array_index k) [] ++ (indices (array_pairs 0 t.array) ++ indices t.entries)
 unfolding candidates pairs
 candidates-are t k =
-    index-append (array_index k) (indices (array_pairs 0 t.array ++ t.entries))
+    index-append (array_index k) [] (indices (array_pairs 0 t.array ++ t.entries))
     ∙ ap (λ (l : List ℕ). with_index (array_index k) [] ++ l) (indices-append (array_pairs 0 t.array) t.entries)
 
-abbrev pub zeros : List ℕ
+abbrev zeros : List ℕ
 zeros = replicate class_counts 0
 
-pub zeros-most : AtMost 0 zeros
-zeros-most = record { long = refl; each = λ k. omega (arith, zero-at class_counts k) }
+zeros-most : AtMost 0 zeros
+zeros-most = record { long = refl; each = λ k. grind (arith, common_steps) }
 
 -- ---- the steps, and how large counts are after each
 module _ (aw ew : List ℕ) (r : Record) (k : Words) where
@@ -61,7 +57,7 @@ module _ (aw ew : List ℕ) (r : Record) (k : Words) where
         unfolding table_of
         all-counted iw j lt =
             let all = counted-then of_key (of_array ++ of_entries) s (counted-then of_array of_entries t u) in
-            rw (candidates-are (table_of (store_of aw ew iw r)) k) (all.each j lt ∙ omega (arith, zero-at class_counts j))
+            rw (candidates-are (table_of (store_of aw ew iw r)) k) (grind (arith, all.each j lt, zeros-most.each j))
 
         pub grown-size : (iw : List ℕ) {m : ℕ} (n : ℕ) → ((l : List ℕ) → Holds l c'' → n ≡ best (λ S. count_below S l) (length aw / 2) class_counts) → m ≡ max r.size n
             → GrownSize (store_of aw ew iw r) k m

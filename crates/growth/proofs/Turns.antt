@@ -1,19 +1,12 @@
 -- Entries counted one after the other, whatever the entry of a place is: an entry word's, or an array value's with its key. Assumes nothing.
-use mathlib.Core.Path.{◌≡◌, ap, ◌∙◌}
-use mathlib.Core.Bool.{true, false}
-use mathlib.Core.List.{List, [], ◌∷◌, ◌++◌}
-use Prim.Native.Nat.{ℕ, suc, ◌+◌, ◌≤◌}
-use native.Mathlib.Nat.{zero-add}
-use native.Mathlib.Numerals.{add-one}
-use native.Mathlib.Omega.{arith}
-use lib.ListN.{length}
+use Rattle.std.proofs.Common.{◌≡◌, ℕ, suc, ◌+◌, ◌≤◌, true, false, List, [], ◌∷◌, ◌++◌, length, ap, ◌∙◌, zero-add, add-one, arith}
 use Rattle.value.specs.Same.{is_nil}
 use Rattle.key.specs.Canonical.{array_index}
 use Rattle.model.specs.Entries.{Entry}
 use Rattle.model.specs.Growth.{with_index, indices, tabulate}
 use Rattle.model.proofs.Entries.{length-tabulate, tabulate-snoc}
 use Rattle.growth.specs.Counts.{Counted}
-use Rattle.growth.proofs.Tally.{indices-append, live-indices, nil-indices, indices-le}
+use Rattle.growth.proofs.Tally.{indices-append, indices-le}
 use Rattle.growth.proofs.Steps.{counted_none, counted-then}
 
 module _ (f : ℕ → Entry) where
@@ -31,8 +24,8 @@ module _ (f : ℕ → Entry) where
   firsts-le n = omega (arith, indices-le (tabulate n f 0), length-tabulate n f 0)
 
   pub turn-nil : {c c' : List ℕ} (n : ℕ) → Counted (firsts n) c c' → is_nil (f n).value ≡ true → Counted (firsts (n + 1)) c c'
-  turn-nil n s e = rw (add-one n, firsts-next n, nil-indices (f n) e) (counted-then (firsts n) [] s (counted_none _ s.long))
+  turn-nil n s e = rw (add-one n, firsts-next n, e) (counted-then (firsts n) [] s (counted_none _ s.long))
 
   pub turn-live : {c c' c'' : List ℕ} (n : ℕ) → Counted (firsts n) c c' → is_nil (f n).value ≡ false → Counted (with_index (array_index (f n).key) []) c' c''
       → Counted (firsts (n + 1)) c c''
-  turn-live n s e t = rw (add-one n, firsts-next n, live-indices (f n) e) (counted-then (firsts n) _ s t)
+  turn-live n s e t = rw (add-one n, firsts-next n, e) (counted-then (firsts n) _ s t)

@@ -1,11 +1,9 @@
 -- Class counts (01, 'Growth', steps 1 and 2): how many of some indices each class has, and the size that growth gives the array. Assumes
 -- nothing.
-use Rattle.std.specs.Prelude.{◌≡◌, cond, List, ℕ, zero, suc, ◌+◌, ◌≤◌, ◌<◌, max, length, get_or}
+use Rattle.std.specs.Prelude.{◌≡◌, cond, List, ℕ, zero, suc, ◌+◌, ◌≤◌, ◌<◌, max, length, get_or, Option, Some, None}
 use Rattle.std.specs.Float.Ieee.{size}
 use Rattle.value.specs.declared.Words.{Words}
 use Rattle.value.specs.Same.{is_nil}
-use Rattle.key.specs.declared.ArrayIndex.{ArrayIndex}
-use Rattle.key.specs.declared.ArrayIndex.TheVariants.{At, Nothing}
 use Rattle.lent.specs.Lent.{value_at}
 use Rattle.model.specs.Growth.{tally, optimal_size}
 use Rattle.store.specs.Limits.{class_counts}
@@ -13,9 +11,9 @@ use Rattle.store.specs.Store.{Store, room_for}
 use Rattle.store.specs.Written.{table_of}
 
 -- the class of an index; a number that is no class where there is none
-abbrev pub class_of : ArrayIndex → ℕ
-class_of (At i) = size i
-class_of Nothing = class_counts
+abbrev pub class_of : Option ℕ → ℕ
+class_of (Some i) = size i
+class_of None = class_counts
 
 -- c' is c with these indices counted; those of a class that has no count are left out
 pub record Counted (l : List ℕ) (c c' : List ℕ) : Type 0 where

@@ -3,7 +3,7 @@
 // this crate. Of the words nothing is assumed.
 #![tactic(auto)]
 
-ghost use Rattle.std.specs.Prelude.{◌≡◌, List, [], ℕ, ◌+◌, ◌-◌, ◌*◌, ◌^◌, ◌<◌, ◌≤◌, length, get_or, set};
+ghost use Rattle.std.specs.Prelude.{◌≡◌, List, [], ℕ, ◌+◌, ◌-◌, ◌*◌, ◌^◌, ◌<◌, ◌≤◌, length, get_or, SomeIff};
 ghost use Rattle.key.specs.Canonical.{array_index};
 ghost use Rattle.lent.specs.Lent.{value_at};
 ghost use Rattle.model.specs.Table.{array_pairs};
@@ -13,7 +13,7 @@ ghost use Rattle.store.specs.Store.{store_of};
 ghost use Rattle.store.specs.Written.{entries_in};
 ghost use Rattle.growth.specs.Counts.{class_of, Counted, Holds, AtMost, count_of_values, GrownSize};
 
-use key::ArrayIndex;
+use lent::Entries;
 use store::Record;
 use value::Words;
 
@@ -23,90 +23,71 @@ const CLASSES: usize = 17;
 
 pub type Counts = [u32; CLASSES];
 
-// n more of a class.
-fn add(counts: Counts, class: usize, n: u32) -> Counts
-    requires { (length counts ≡ class_counts) × (class < class_counts) × (get_or counts class 0 + n < 2 ^ 32) }
-    ensures { result ≡ set counts class (get_or counts class 0 + n) }
+// The class of a key's index, where it is counted.
+fn class_of(key: Words) -> Option<usize>
+    ensures { SomeIff result (class_of (array_index key) < class_counts) (class_of (array_index key)) }
 {
-    let mut c = counts;
-    c[class] = c[class] + n;
-    c
-}
-
-// The class of a key's index; CLASSES or more where it is not counted.
-fn class_of(key: Words) -> usize
-    ensures { result ≡ class_of (array_index key) }
-{
-    match key::array_index(key) {
-        ArrayIndex::At(i) => key::highest_bit(i) as usize,
-        ArrayIndex::Nothing => CLASSES,
-    }
+    let class = key::highest_bit(key::array_index(key)?) as usize;
+    (class < CLASSES).then_some(class)
 }
 
 // A new key.
-fn count_key(key: Words, counts: Counts) -> Counts
+fn count_key(key: Words, mut counts: Counts) -> Counts
     requires { AtMost 0 counts }
     ensures { Counted (with_index (array_index key) []) counts result }
 {
-    let class = class_of(key);
-    if class < CLASSES {
-        return add(counts, class, 1);
+    if let Some(class) = class_of(key) {
+        counts[class] += 1;
     }
     counts
 }
 
 // The entries that have a value.
-fn count_entries(entries: &[u64], count: usize, counts: Counts) -> Counts
-    requires { (4 * count ≤ length entries.now) × (count ≤ entry_limit) × AtMost (array_limit + 1) counts }
-    ensures { Counted (indices (entries_in entries.now count)) counts result }
+fn count_entries(entries: &Entries, mut counts: Counts) -> Counts
+    requires { (entries.now.count ≤ entry_limit) × AtMost (array_limit + 1) counts }
+    ensures { Counted (indices (entries_in entries.now.words.now entries.now.count)) counts result }
 {
-    let mut c = counts;
-    for i in 0..count {
-        if !value::is_nil(lent::value_at(entries, 2 * i + 1)) {
-            let class = class_of(lent::value_at(entries, 2 * i));
-            if class < CLASSES {
-                c[class] = c[class] + 1;
+    for i in 0..entries.count {
+        if !entries.value(i).is_nil() {
+            if let Some(class) = class_of(entries.key(i)) {
+                counts[class] += 1;
             }
         }
     }
-    c
+    counts
 }
 
 // How many values from one place to another are not Nil.
+// A filter and a count in place of the `for` took 53 µs over 32,768 values against 19.
+#[tactic(auto, using(crate::proofs::Ranges::values_none, crate::proofs::Ranges::values_next))]
 fn count_values(array: &[u64], from: usize, to: usize) -> u32
     requires { (from ≤ to) × (2 * to ≤ length array.now) × (to ≤ array_limit) }
     ensures { (result ≡ count_of_values array.now from (to - from)) × (result ≤ to - from) }
 {
-    let mut n = 0u32;
-    let mut i = from;
-    while i < to {
-        if !value::is_nil(lent::value_at(array, i)) {
+    let mut n = 0;
+    for i in from..to {
+        if !lent::value_at(array, i).is_nil() {
             n += 1;
         }
-        i += 1;
     }
     n
 }
 
 // The array's values, by ranges of a class: class 0 has place 0, and class c the places from 2 ^ (c - 1) to 2 ^ c - 1.
-fn count_array(array: &[u64], size: usize, counts: Counts) -> Counts
+fn count_array(array: &[u64], size: usize, mut counts: Counts) -> Counts
     requires { (2 * size ≤ length array.now) × (size ≤ array_limit) × AtMost 1 counts }
     ensures { Counted (indices (array_pairs 0 (tabulate size (value_at array.now) 0))) counts result }
 {
-    let mut c = counts;
     let mut from = 0;
-    let mut to = 1;
-    let mut class: usize = 0;
-    while from < size {
-        let end = if to < size { to } else { size };
-        // The prover does not cover `c = add(..)`: a call's result put in a local that already holds an array.
-        let d = add(c, class, count_values(array, from, end));
-        c = d;
+    for (class, count) in counts.iter_mut().enumerate() {
+        if from == size {
+            break;
+        }
+        let to = size.min(1 << class);
+        *count += count_values(array, from, to);
         from = to;
-        to = 2 * to;
-        class += 1;
     }
-    c
+    counts
 }
 
 // The largest power of two, at most the room, with more than half of its places among the counted; 0 if none.
@@ -115,16 +96,13 @@ fn best_size(counts: Counts, room: usize) -> usize
     ensures { (l : List ℕ) → Holds l counts → result ≡ best (λ S. count_below S l) room class_counts }
 {
     let mut size = 0;
-    let mut total = 0u32;
-    let mut power = 1;
-    for class in 0..CLASSES {
-        total += counts[class];
-        if power <= room {
-            if power / 2 < total as usize {
-                size = power;
-            }
+    let mut total = 0;
+    for (class, count) in counts.iter().enumerate() {
+        let power = 1 << class;
+        total += *count as usize;
+        if power <= room && power / 2 < total {
+            size = power;
         }
-        power = 2 * power;
     }
     size
 }
@@ -134,11 +112,14 @@ pub fn array_size(array: &[u64], entries: &[u64], sizes: Record, key: Words) -> 
     requires { (2 * sizes.size ≤ length array.now) × (4 * sizes.count ≤ length entries.now) × (sizes.size ≤ array_limit) × (sizes.count ≤ entry_limit) }
     ensures { (iw : List ℕ) → GrownSize (store_of array.now entries.now iw sizes) key result }
 {
-    let new = count_key(key, [0u32; CLASSES]);
+    let new = count_key(key, [0; CLASSES]);
     let within = count_array(array, sizes.size, new);
-    let all = count_entries(entries, sizes.count, within);
-    let size = best_size(all, array.len() / 2);
-    if sizes.size < size { size } else { sizes.size }
+    let in_use = Entries {
+        words: entries,
+        count: sizes.count,
+    };
+    let all = count_entries(&in_use, within);
+    sizes.size.max(best_size(all, array.len() / 2))
 }
 
 // The allowance where some entries remain.
@@ -149,6 +130,5 @@ pub fn grown_allowance(room: usize, staying: usize, allowance: usize) -> usize
     if 2 * staying < allowance {
         return allowance;
     }
-    let twice = if allowance < 2 { 4 } else { 2 * allowance };
-    if twice < room { twice } else { room }
+    room.min((2 * allowance).max(4))
 }

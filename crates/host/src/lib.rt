@@ -6,32 +6,40 @@ ghost use Rattle.std.specs.Prelude.{◌≡◌};
 ghost use Rattle.value.specs.Encoding.{words};
 ghost use Rattle.model.specs.Entries.{entry};
 ghost use Rattle.lent.specs.Says.{Says};
-ghost use Rattle.store.specs.Store.{slices, store_of};
+ghost use Rattle.store.specs.Store.{slices, store_of, seen};
 ghost use Rattle.store.specs.Written.{Sound};
 ghost use Rattle.host.specs.Host.{sizes, FreshGives, GetGives, SetGives, NextGives, LengthGives, ReserveGives};
 
 use index::Word;
-use reads::{GotWords, Measured, NextWords};
-use store::{Made, Record};
+use reads::Next;
+use store::{Record, View};
 use value::Words;
-use writes::{Reserved, SetWords};
-
-fn words_of(kind: u64, payload: u64) -> Words
-    ensures { result ≡ words kind payload }
-{
-    Words {
-        kind: kind,
-        payload: payload,
-    }
-}
 
 fn sizes_of(size: usize, allowance: usize, count: usize) -> Record
     ensures { result ≡ sizes size allowance count }
 {
     Record {
-        size: size,
-        allowance: allowance,
-        count: count,
+        size,
+        allowance,
+        count,
+    }
+}
+
+fn view_of<'a>(
+    array: &'a [u64],
+    entries: &'a [u64],
+    index: &'a [Word],
+    size: usize,
+    allowance: usize,
+    count: usize,
+) -> View<'a>
+    ensures { seen result ≡ store_of array.now entries.now index.now (sizes size allowance count) }
+{
+    View {
+        array,
+        entries,
+        index,
+        sizes: sizes_of(size, allowance, count),
     }
 }
 
@@ -45,7 +53,7 @@ pub fn amzighrod_check(
 ) -> bool
     ensures { Says result (Sound (store_of array.now entries.now index.now (sizes size allowance count))) }
 {
-    store::check(array, entries, index, sizes_of(size, allowance, count))
+    store::check(&view_of(array, entries, index, size, allowance, count))
 }
 
 pub fn amzighrod_fresh(
@@ -58,15 +66,13 @@ pub fn amzighrod_fresh(
 ) -> u8
     ensures { FreshGives (slices array.old entries.old index.old) (slices array.new entries.new index.new) (sizes size.old allowance.old count.old) (sizes size.new allowance.new count.new) result }
 {
-    match store::fresh(array, entries, index) {
-        Made::Store(made) => {
-            *size = made.size;
-            *allowance = made.allowance;
-            *count = made.count;
-            0
-        }
-        Made::No(n) => n,
+    let made = store::fresh(array, entries, index);
+    if let Ok(fresh) = made {
+        *size = fresh.size;
+        *allowance = fresh.allowance;
+        *count = fresh.count;
     }
+    value::answer_number(&made)
 }
 
 pub fn amzighrod_get(
@@ -83,15 +89,13 @@ pub fn amzighrod_get(
 ) -> u8
     ensures { GetGives (store_of array.now entries.now index.now (sizes size allowance count)) (words keykind keypayload) (words kind.old payload.old) (words kind.new payload.new) result }
 {
-    let key = words_of(keykind, keypayload);
-    match reads::get_words(array, entries, index, sizes_of(size, allowance, count), key) {
-        GotWords::Value(found) => {
-            *kind = found.kind;
-            *payload = found.payload;
-            0
-        }
-        GotWords::No(n) => n,
+    let key = Words::new(keykind, keypayload);
+    let got = reads::get_words(&view_of(array, entries, index, size, allowance, count), key);
+    if let Ok(found) = got {
+        *kind = found.kind;
+        *payload = found.payload;
     }
+    value::answer_number(&got)
 }
 
 pub fn amzighrod_set(
@@ -110,26 +114,22 @@ pub fn amzighrod_set(
 ) -> u8
     ensures { SetGives (store_of array.old entries.old index.old (sizes size.old allowance.old count.old)) (words keykind keypayload) (words valuekind valuepayload) (words kind.old payload.old) (store_of array.new entries.new index.new (sizes size.new allowance.new count.new)) (words kind.new payload.new) result }
 {
-    let key = words_of(keykind, keypayload);
-    let v = words_of(valuekind, valuepayload);
-    match writes::set_words(
+    let set = writes::set_words(
         array,
         entries,
         index,
         sizes_of(*size, *allowance, *count),
-        key,
-        v,
-    ) {
-        SetWords::Done(previous, after) => {
-            *size = after.size;
-            *allowance = after.allowance;
-            *count = after.count;
-            *kind = previous.kind;
-            *payload = previous.payload;
-            0
-        }
-        SetWords::No(n) => n,
+        Words::new(keykind, keypayload),
+        Words::new(valuekind, valuepayload),
+    );
+    if let Ok((previous, sizes)) = set {
+        *size = sizes.size;
+        *allowance = sizes.allowance;
+        *count = sizes.count;
+        *kind = previous.kind;
+        *payload = previous.payload;
     }
+    value::answer_number(&set)
 }
 
 // 0 and the pair after the key, which is written over the key; 1 for Last and 2 for NotFound, as in a trace.
@@ -147,18 +147,18 @@ pub fn amzighrod_next(
 ) -> u8
     ensures { NextGives (store_of array.now entries.now index.now (sizes size allowance count)) (entry (words keykind.old keypayload.old) (words kind.old payload.old)) (entry (words keykind.new keypayload.new) (words kind.new payload.new)) result }
 {
-    let key = words_of(*keykind, *keypayload);
-    match reads::next_words(array, entries, index, sizes_of(size, allowance, count), key) {
-        NextWords::Found(k, v) => {
+    let key = Words::new(*keykind, *keypayload);
+    match reads::next_words(&view_of(array, entries, index, size, allowance, count), key) {
+        Ok(Next::Found(k, v)) => {
             *keykind = k.kind;
             *keypayload = k.payload;
             *kind = v.kind;
             *payload = v.payload;
             0
         }
-        NextWords::Last => 1,
-        NextWords::NotFound => 2,
-        NextWords::No(n) => n,
+        Ok(Next::Last) => 1,
+        Ok(Next::NotFound) => 2,
+        Err(refusal) => u8::from(refusal),
     }
 }
 
@@ -173,13 +173,11 @@ pub fn amzighrod_length(
 ) -> u8
     ensures { LengthGives (store_of array.now entries.now index.now (sizes size allowance count)) border.old border.new result }
 {
-    match reads::length(array, entries, index, sizes_of(size, allowance, count)) {
-        Measured::Length(n) => {
-            *border = n;
-            0
-        }
-        Measured::No(n) => n,
+    let measured = reads::length(&view_of(array, entries, index, size, allowance, count));
+    if let Ok(n) = measured {
+        *border = n;
     }
+    value::answer_number(&measured)
 }
 
 pub fn amzighrod_reserve(
@@ -193,19 +191,17 @@ pub fn amzighrod_reserve(
 ) -> u8
     ensures { ReserveGives (store_of array.old entries.old index.old (sizes size.old allowance.old count.old)) n (store_of array.new entries.new index.new (sizes size.new allowance.new count.new)) result }
 {
-    match writes::reserve(
+    let reserved = writes::reserve(
         array,
         entries,
         index,
         sizes_of(*size, *allowance, *count),
         n,
-    ) {
-        Reserved::Done(reserved) => {
-            *size = reserved.size;
-            *allowance = reserved.allowance;
-            *count = reserved.count;
-            0
-        }
-        Reserved::No(m) => m,
+    );
+    if let Ok(after) = reserved {
+        *size = after.size;
+        *allowance = after.allowance;
+        *count = after.count;
     }
+    value::answer_number(&reserved)
 }

@@ -1,5 +1,5 @@
 -- Climbing: going up from place to place of a ring, to the first word that a test stops at. Over any test and any words. Assumes nothing.
-use Rattle.std.proofs.Common.{◌≡◌, ℕ, zero, suc, ◌+◌, ◌-◌, ◌<◌, ◌≤◌, Bool, true, false, ltb, ◌⊎◌, List, get_or, refl, ap, ◌∙◌, subst, inl, inr, ⊎_elim, suc-le-suc, zero-le, le_of_suc-le-suc, not-suc-le-zero, arith, ltb-false, ltb-true}
+use Rattle.std.proofs.Common.{◌≡◌, ℕ, zero, suc, ◌+◌, ◌-◌, ◌<◌, ◌≤◌, Bool, true, false, ltb, ◌⊎◌, List, get_or, refl, ap, ◌∙◌, inl, inr, ⊎_elim, suc-le-suc, zero-le, add-one, le_of_suc-le-suc, not-suc-le-zero, arith, ltb-false, ltb-true}
 use Rattle.value.proofs.Cases.{caseb, clash}
 use Rattle.index.specs.Home.{next_place}
 use Rattle.index.specs.Index.{climb}
@@ -100,34 +100,35 @@ module _ (stop : ℕ → Bool) (n : ℕ) (l : List ℕ) where
       (λ e. rw e (record { far = zero; near = zero-le; chain = here; end = inl e }))
       (λ e. rw e (record { far = suc c.far; near = suc-le-suc c.near; chain = step e c.chain; end = ⊎_elim inl (λ p. inr (ap suc p)) c.end }))
 
+  -- it ends in the ring
+  pub climb-lt : (f j : ℕ) → j < n → climb stop n l f j < n
+  climb-lt f j h = chain-lt h (climbed f j).chain
+
   -- where some place stops it, a climb round the whole ring stops
   pub climb-stops : (j k : ℕ) → j < n → k < n → stop (get_or l k 0) ≡ true → stop (get_or l (climb stop n l n j) 0) ≡ true
   climb-stops j k hj hk e =
       let c = climbed n j in
       ⊎_elim (λ p. p) (λ p. clash e (chain-round hj (rw p at c.chain) k hk)) c.end
 
-  -- ---- a climb on its way, as a loop makes it: from h it came to j without a stop, and has `left` places to go
-  pub record Going (h j left : ℕ) : Type 0 where
+  -- ---- a climb on its way, as a loop makes it: from h it came to j by i places, none of which stopped it
+  pub record Going (h i j : ℕ) : Type 0 where
     pub inside : j < n
-    pub far : ℕ
-    pub all : far + left ≡ n
-    pub chain : Chain stop n l far h j
+    pub chain : Chain stop n l i h j
 
-  pub going_start : (h : ℕ) → h < n → Going h h n
-  going_start h b = record { inside = b; far = 0; all = omega arith; chain = here }
+  pub going_start : (h : ℕ) → h < n → Going h 0 h
+  going_start h b = record { inside = b; chain = here }
 
-  pub going-turn : (h j left : ℕ) → Going h j left → 0 < left → stop (get_or l j 0) ≡ false → Going h (next_place n j) (left - 1)
-  going-turn h j left g b e = record { inside = next-lt n j g.inside; far = suc g.far; all = omega (arith, g.all); chain = chain_more g.chain e }
+  pub going-turn : (h i j : ℕ) → Going h i j → stop (get_or l j 0) ≡ false → Going h (i + 1) (next_place n j)
+  going-turn h i j g e = record { inside = next-lt n j g.inside; chain = rw add-one (chain_more g.chain e) }
 
-  pub going-stop : (h j left : ℕ) → Going h j left → stop (get_or l j 0) ≡ true → climb stop n l n h ≡ j
-  going-stop h j left g e = climb-at n (omega (arith, g.all)) g.chain e
+  pub going-stop : (h i j : ℕ) → Going h i j → i ≤ n → stop (get_or l j 0) ≡ true → climb stop n l n h ≡ j
+  going-stop h i j g b e = climb-at n b g.chain e
 
   -- all the way round without a stop
-  whole : (h j left : ℕ) → Going h j left → left ≤ 0 → Chain stop n l n h j
-  whole h j left g z = subst (λ (d : ℕ). Chain stop n l d h j) (omega (arith, g.all)) g.chain
+  pub going_end : (h i j : ℕ) → Going h i j → i ≡ n → climb stop n l n h ≡ j
+  going_end h i j g e = climb-past (rw e at g.chain)
 
-  pub going_end : (h j left : ℕ) → Going h j left → left ≤ 0 → climb stop n l n h ≡ j
-  going_end h j left g z = climb-past (whole h j left g z)
+  pub going-missed : (h i j : ℕ) → h < n → Going h i j → i ≡ n → stop (get_or l j 0) ≡ false
+  going-missed h i j b g e = chain-round b (rw e at g.chain) j g.inside
 
-  pub going-missed : (h j left : ℕ) → h < n → Going h j left → left ≤ 0 → stop (get_or l j 0) ≡ false
-  going-missed h j left b g z = chain-round b (whole h j left g z) j g.inside
+pub ruleset climbing = (going_start, going-turn, going-stop, going_end)

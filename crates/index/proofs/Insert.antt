@@ -9,7 +9,7 @@ use Rattle.value.proofs.Cases.{clash}
 use Rattle.lent.proofs.Lent.{zero-at}
 use Rattle.index.specs.Index.{climb, reached, is_empty, placed, index_of, not_before, seat_of, used}
 use Rattle.index.proofs.Used.{not-empty, is-empty, used-zeros, used-set, used-clear, none-used, some-empty, inside}
-use Rattle.index.proofs.Climb.{Chain, chain-to, chain-lt, climb-at, Climbed, climbed, climb-stops}
+use Rattle.index.proofs.Climb.{Chain, chain-to, climb-at, Climbed, climbed, climb-stops, climb-lt, climbing}
 
 -- ---- the tests of a word
 -- a word of an entry before entry i
@@ -24,6 +24,8 @@ later i (suc w) g = lt-ltb i (suc w) g
 pub earlier : (i w : ℕ) → not_before i w ≡ false → (w ≡ 0 → ⊥) × (w ≤ i)
 earlier i zero e = (λ p. absurd (let z : ◌≡◌ {A = ℕ} 0 1 = cc in omega arith), zero-le)
 earlier i (suc w) e = (λ p. omega arith, ltb-false i (suc w) e)
+
+pub ruleset seating = (climbing, before, later)
 
 -- a list with another word at place k: a word that is not there is as it was
 untouched : (l : List ℕ) (k v p : ℕ) → (get_or l p 0 ≡ get_or l k 0 → ⊥) → get_or (set l k v) p 0 ≡ get_or l p 0
@@ -87,7 +89,7 @@ module _ (n : ℕ) (home : ℕ → ℕ) (e : ℕ) (l : List ℕ) (H : Held n hom
   at-empty = reached-empty l (home e) (omega (arith, H.long, H.count)) (rw H.long hl)
 
   at-inside : at < length l
-  at-inside = chain-lt is_empty (length l) l (rw H.long hl) (climbed is_empty (length l) l (length l) (home e)).chain
+  at-inside = climb-lt is_empty (length l) l (length l) (home e) (rw H.long hl)
 
   way : Climbed is_empty (length l) l (length l) (home e) at
   way = climbed is_empty (length l) l (length l) (home e)

@@ -1,20 +1,18 @@
 -- What a search answers: on any words only entries below the count and places in the index; on a right index the entry that has the key,
 -- or where it would go. Assumes nothing.
-use Rattle.std.proofs.Common.{◌≡◌, ℕ, zero, suc, ◌-◌, ◌<◌, ◌≤◌, Bool, true, false, eqb, ltb, ◌⊎◌, List, length, get_or, sym, refl, ap, ◌∙◌, subst, inl, inr, ⊎_elim, le_of_suc-le-suc, not-suc-le-zero, eq-or-lt_of_le, arith, ltb-true, le-ltb, lt-ltb, eq-eqb, eqb-true}
+use Rattle.std.proofs.Common.{◌≡◌, ℕ, zero, suc, ◌+◌, ◌-◌, ◌<◌, ◌≤◌, Bool, true, false, ltb, ◌⊎◌, List, length, get_or, sym, refl, ap, ◌∙◌, subst, inl, inr, ⊎_elim, le_of_suc-le-suc, not-suc-le-zero, eq-or-lt_of_le, arith, ltb-true, le-ltb, lt-ltb}
 use Rattle.value.specs.declared.Words.{Words}
 use Rattle.value.specs.Same.{same}
 use Rattle.value.proofs.Cases.{caseb, clash, and_left, and_right}
 use Rattle.value.proofs.Same.{same-eq, eq-same}
-use Rattle.lent.specs.Says.{Says}
 use Rattle.lent.specs.Lent.{key_at}
-use Rattle.lent.proofs.Says.{says-no}
 use Rattle.index.specs.declared.Found.{Found}
 use Rattle.index.specs.declared.Found.TheVariants.{At, Absent, Full}
 use Rattle.index.specs.Home.{home_of, next_place}
 use Rattle.index.specs.Index.{climb, reached, is_empty, not_before, homes, Distinct, Right}
 use Rattle.index.specs.Search.{hits, stops, answer, answer_at, searched, Stands, Finds, AllFound}
 use Rattle.index.proofs.Home.{home-lt}
-use Rattle.index.proofs.Climb.{chain-to, chain-lt, climb-at, climbed, Going, going_start, going-turn, going-stop, going_end, going-missed}
+use Rattle.index.proofs.Climb.{chain-to, climb-at, Going, climb-lt, going-turn, going-stop, going_end, going-missed}
 use Rattle.index.proofs.Insert.{reached-empty, Held, index-held, earlier}
 
 -- ---- what is hit
@@ -116,7 +114,7 @@ module _ (ws : List ℕ) (e : ℕ) (l : List ℕ) (k : Words) (R : Right ws e l)
       ⊎_elim
       (λ (i, lt, y). let (h, q) = hit-is ws e k i y in rw (search-finds i lt q) (lt, q))
       (λ none. let free : (i : ℕ) → i < e → key_at ws i ≡ k → ⊥ = λ i lt q. clash (hit-yes ws e k i lt q) (none i lt) in
-      rw (search-misses free) (free, chain-lt is_empty n l home-in (climbed is_empty n l n (home_of n k)).chain, refl))
+      rw (search-misses free) (free, climb-lt is_empty n l n (home_of n k) home-in, refl))
       (some-hit hit e)
 
 -- ---- on any words: an entry that is found is there, and a place where none was found is in the index
@@ -129,8 +127,7 @@ unfolding searched
 search-stands ws e l k h =
     let n = length l in
     let hit = hits ws e k in
-    let way = climbed (stops hit) n l n (home_of n k) in
-    answered hit e n _ (λ i y. (hit-is ws e k i y).0) (chain-lt (stops hit) n l (home-lt n k h) way.chain) (get_or l (reached (stops hit) l (home_of n k)) 0)
+    answered hit e n _ (λ i y. (hit-is ws e k i y).0) (climb-lt (stops hit) n l n (home_of n k) (home-lt n k h)) (get_or l (reached (stops hit) l (home_of n k)) 0)
 
 -- ---- every entry is found by its key: no two have one key, and on a right index that is so
 pub found-distinct : (ws : List ℕ) (e : ℕ) (l : List ℕ) → AllFound ws e l → Distinct ws e
@@ -139,51 +136,41 @@ found-distinct ws e l own i j hi hj q = let p : At i ≡ At j = sym (own i hi) �
 pub right-found : (ws : List ℕ) (e : ℕ) (l : List ℕ) → Right ws e l → AllFound ws e l
 right-found ws e l R i lt = search-finds ws e l (key_at ws i) R i lt refl
 
+pub ruleset found_by_key = (found-distinct, right-found)
+
 -- ---- the ways through `search`: it is at place j, whose word is tested
-module _ (ws : List ℕ) (e : ℕ) (l : List ℕ) (k : Words) (h : 0 < length l) where
+module _ (ws : List ℕ) (e : ℕ) (l : List ℕ) (k : Words) where
   abbrev pub Climbing : ℕ → ℕ → Type 0
-  Climbing j left = Going (stops (hits ws e k)) (length l) l (home_of (length l) k) j left
+  Climbing i j = Going (stops (hits ws e k)) (length l) l (home_of (length l) k) i j
 
   -- what is promised of an answer
   abbrev pub Promised : Found → Type 0
   Promised r = (r ≡ searched ws e l k) × (Stands e (length l) r × (Right ws e l → Finds ws e l k r))
 
-  promised : {r : Found} → r ≡ searched ws e l k → Promised r
-  promised q = rw q (refl, (search-stands ws e l k h, search-right ws e l k))
-
-  pub search-start : Climbing (home_of (length l) k) (length l)
-  search-start = going_start (stops (hits ws e k)) (length l) l (home_of (length l) k) (home-lt (length l) k h)
-
-  pub search-empty : (j left : ℕ) → Climbing j left → get_or l j 0 ≡ 0 → Promised (Absent j)
+  promised : (j : ℕ) {r : Found} → j < length l → climb (stops (hits ws e k)) (length l) l (length l) (home_of (length l) k) ≡ j
+      → answer_at (hits ws e k) l j ≡ r → Promised r
   unfolding searched
-  search-empty j left g z =
-      let hit = hits ws e k in
-      let here = going-stop (stops hit) (length l) l (home_of (length l) k) j left g (ap (stops hit) z) in
-      promised (sym (ap (answer_at hit l) here ∙ ap (answer hit j) z))
+  promised j b at q =
+      subst Promised (ap (answer_at (hits ws e k) l) at ∙ q) (refl, (search-stands ws e l k (omega arith), search-right ws e l k))
 
-  pub search-hit : (j left : ℕ) → Climbing j left → (get_or l j 0 ≡ 0 → ⊥) → hits ws e k (get_or l j 0 - 1) ≡ true → Promised (At (get_or l j 0 - 1))
-  unfolding searched
-  search-hit j left g z y =
-      let hit = hits ws e k in
-      let here = going-stop (stops hit) (length l) l (home_of (length l) k) j left g (stops-word hit (get_or l j 0) z ∙ y) in
-      promised (sym (ap (answer_at hit l) here ∙ answer-hit hit j (get_or l j 0) z y))
+  module _ (i j : ℕ) (g : Climbing i j) (b : i ≤ length l) where
+    pub search-empty : get_or l j 0 ≡ 0 → Promised (Absent j)
+    search-empty z =
+        promised j g.inside (going-stop (stops (hits ws e k)) (length l) l (home_of (length l) k) i j g b (ap (stops (hits ws e k)) z))
+        (ap (answer (hits ws e k) j) z)
 
-  pub search-turn : (j left : ℕ) → Climbing j left → 0 < left → (get_or l j 0 ≡ 0 → ⊥) → hits ws e k (get_or l j 0 - 1) ≡ false
-      → Climbing (next_place (length l) j) (left - 1)
-  search-turn j left g b z m =
-      let hit = hits ws e k in
-      going-turn (stops hit) (length l) l (home_of (length l) k) j left g b (stops-word hit (get_or l j 0) z ∙ m)
+    module _ (z : get_or l j 0 ≡ 0 → ⊥) where
+      pub search-hit : hits ws e k (get_or l j 0 - 1) ≡ true → Promised (At (get_or l j 0 - 1))
+      search-hit y =
+          promised j g.inside
+          (going-stop (stops (hits ws e k)) (length l) l (home_of (length l) k) i j g b (stops-word (hits ws e k) (get_or l j 0) z ∙ y))
+          (answer-hit (hits ws e k) j (get_or l j 0) z y)
 
-  pub search-full : (j left : ℕ) → Climbing j left → left ≤ 0 → Promised Full
-  unfolding searched
-  search-full j left g z =
-      let hit = hits ws e k in
-      let m = going-missed (stops hit) (length l) l (home_of (length l) k) j left (home-lt (length l) k h) g z in
-      promised (sym (ap (answer_at hit l) (going_end (stops hit) (length l) l (home_of (length l) k) j left g z) ∙ answer-full hit j (get_or l j 0) m))
+      pub search-turn : hits ws e k (get_or l j 0 - 1) ≡ false → Climbing (i + 1) (next_place (length l) j)
+      search-turn m = going-turn (stops (hits ws e k)) (length l) l (home_of (length l) k) i j g (stops-word (hits ws e k) (get_or l j 0) z ∙ m)
 
--- ---- what a test of the answer says
-pub says_at : {s : Found} (j i : ℕ) → s ≡ At j → Says (eqb j i) (s ≡ At i)
-says_at j i p = record { only = λ e. p ∙ ap At (eqb-true j i e); whenever = λ q. eq-eqb j i (let r : At j ≡ At i = sym p ∙ q in cc) }
-
-pub says-not-at : {s r : Found} (i : ℕ) → s ≡ r → (r ≡ At i → ⊥) → Says false (s ≡ At i)
-says-not-at i p f = says-no (λ q. f (sym p ∙ q))
+  pub search-full : (i j : ℕ) → Climbing i j → i ≡ length l → Promised Full
+  search-full i j g q =
+      let h = home_of (length l) k in
+      let m = going-missed (stops (hits ws e k)) (length l) l h i j (home-lt (length l) k (omega (arith, g.inside))) g q in
+      promised j g.inside (going_end (stops (hits ws e k)) (length l) l h i j g q) (answer-full (hits ws e k) j (get_or l j 0) m)

@@ -1,6 +1,8 @@
--- How many words of a list are not empty: what a store changes in the count, what a count says of the words, and a count made word by word.
--- Assumes nothing.
-use Rattle.std.proofs.Common.{◌≡◌, ℕ, zero, suc, ◌+◌, ◌<◌, ◌≤◌, Bool, true, false, cond, List, [], ◌∷◌, length, get_or, drop, set, replicate, refl, ap, suc-le-suc, zero-le, le_of_suc-le-suc, not-suc-le-zero, add-one, arith, drop_of_length-le, drop-cons}
+-- How many words of a list are not empty: what a store changes in the count, what a count says of the words, and the count as code makes
+-- it. Assumes nothing.
+use Rattle.std.proofs.Common.{◌≡◌, ℕ, zero, suc, eqb, not, count_by, ◌+◌, ◌<◌, true, false, cond, List, [], ◌∷◌, length, get_or, set, replicate, refl, ap, suc-le-suc, zero-le, le_of_suc-le-suc, not-suc-le-zero, arith}
+use Rattle.std.proofs.lemmas.List.Recursion.{is_count_by}
+use Rattle.std.proofs.lemmas.Bool.Decides.{nat_tests}
 use Rattle.value.proofs.Cases.{clash}
 use Rattle.index.specs.Index.{is_empty, used}
 
@@ -43,16 +45,11 @@ inside [] k w e = absurd (omega arith)
 inside (x ∷ l) zero w e = suc-le-suc zero-le
 inside (x ∷ l) (suc k) w e = suc-le-suc (inside l k w e)
 
--- ---- word by word: what is used from place i on
-module _ (l : List ℕ) (i : ℕ) where
-  used_turn : (b : Bool) → i < length l → is_empty (get_or l i 0) ≡ b → used (drop i l) ≡ cond b (used (drop (i + 1) l)) (suc (used (drop (i + 1) l)))
-  used_turn b h e = rw (add-one i, drop-cons l i 0 h, e)
-
-  pub used-none : i < length l → get_or l i 0 ≡ 0 → used (drop i l) ≡ used (drop (i + 1) l)
-  used-none h z = used_turn true h (ap is_empty z)
-
-  pub used-one : i < length l → (get_or l i 0 ≡ 0 → ⊥) → used (drop i l) ≡ suc (used (drop (i + 1) l))
-  used-one h z = used_turn false h (not-empty (get_or l i 0) z)
-
-  pub used-end : length l ≤ i → used (drop i l) ≡ 0
-  used-end h = rw (drop_of_length-le l h)
+-- as code counts them
+pub used_count : (l : List ℕ) → used l ≡ count_by (λ w. not (eqb w 0)) l
+used_count =
+    is_count_by used (λ w. not (eqb w 0)) refl step
+  where
+    step : (w : ℕ) (l : List ℕ) → used (w ∷ l) ≡ cond (not (eqb w 0)) (1 + used l) (used l)
+    step zero l = refl
+    step (suc w) l = grind (arith, nat_tests)

@@ -2,81 +2,62 @@
 #![tactic(auto)]
 
 ghost use Rattle.std.specs.Prelude.{◌≡◌};
-ghost use Rattle.store.specs.Store.{store_of};
-ghost use Rattle.iter.specs.Walker.{start, ended, stepped, WalkerSteps};
+ghost use Rattle.store.specs.Store.{seen};
+ghost use Rattle.iter.specs.Walker.{start, ended, refused, stepped, WalkerSteps};
 
-use index::Word;
-use store::Record;
-use table::NextValue;
-use value::Value;
+use reads::Next;
+use store::View;
+use value::{Refusal, Value};
 
 #[derive(Clone, Copy)]
 pub struct Walker {
-    // the key last handed out, Nil before the first
-    pub key: Value,
-    pub done: bool,
+    // the key last handed out, from which the next step goes on; Nil before the first, and none at the end
+    pub key: Option<Value>,
 }
 
-#[derive(Clone, Copy)]
-pub enum WalkerAnswer {
-    Pair(Value, Value),
-    End,
-    No(u8),
-}
-
+// A walker after its step, and what that handed out: a key and its value, or nothing at the end.
 #[derive(Clone, Copy)]
 pub struct Stepped {
     pub walker: Walker,
-    pub answer: WalkerAnswer,
+    pub answer: Result<Option<(Value, Value)>, Refusal>,
 }
 
-// A walker at its end.
-fn end(key: Value) -> Stepped
-    ensures { result ≡ ended key }
+fn end() -> Stepped
+    ensures { result ≡ ended }
 {
     Stepped {
-        walker: Walker {
-            key: key,
-            done: true,
-        },
-        answer: WalkerAnswer::End,
+        walker: Walker { key: None },
+        answer: Ok(None),
+    }
+}
+
+fn refuse(walker: Walker, refusal: Refusal) -> Stepped
+    ensures { result ≡ refused walker refusal }
+{
+    Stepped {
+        walker,
+        answer: Err(refusal),
     }
 }
 
 // One step of a walker by value: at its end for ever, else as `next` from the key that it keeps. Either tests the shape first.
-pub fn step(
-    walker: Walker,
-    array: &[u64],
-    entries: &[u64],
-    index: &[Word],
-    sizes: Record,
-) -> Stepped
-    ensures { WalkerSteps (store_of array.now entries.now index.now sizes) walker result }
+pub fn step(walker: Walker, view: &View) -> Stepped
+    ensures { WalkerSteps (seen view.now) walker result }
 {
-    let key = walker.key;
-    if walker.done {
-        if store::right_shape(array.len(), entries.len(), index.len(), sizes) {
-            return end(key);
+    let Some(key) = walker.key else {
+        if store::is_shaped(view) {
+            return end();
         }
-        return Stepped {
-            walker: walker,
-            answer: WalkerAnswer::No(key::WRONG_SHAPE),
-        };
-    }
-    match table::next(array, entries, index, sizes, key) {
-        NextValue::Found(k, v) => Stepped {
-            walker: Walker {
-                key: k,
-                done: false,
-            },
-            answer: WalkerAnswer::Pair(k, v),
+        return refuse(walker, Refusal::WrongShape);
+    };
+    match table::next(view, key) {
+        Ok(Next::Found(k, v)) => Stepped {
+            walker: Walker { key: Some(k) },
+            answer: Ok(Some((k, v))),
         },
-        NextValue::Last => end(key),
-        NextValue::NotFound => end(key),
-        NextValue::No(n) => Stepped {
-            walker: walker,
-            answer: WalkerAnswer::No(n),
-        },
+        Ok(Next::Last) => end(),
+        Ok(Next::NotFound) => end(),
+        Err(refusal) => refuse(walker, refusal),
     }
 }
 
@@ -86,21 +67,14 @@ impl Walker {
         ensures { result ≡ start }
     {
         Self {
-            key: Value::Nil,
-            done: false,
+            key: Some(Value::Nil),
         }
     }
 
-    pub fn next(
-        &mut self,
-        array: &[u64],
-        entries: &[u64],
-        index: &[Word],
-        sizes: Record,
-    ) -> WalkerAnswer
-        ensures { WalkerSteps (store_of array.now entries.now index.now sizes) self.old (stepped self.new result) }
+    pub fn next(&mut self, view: &View) -> Result<Option<(Value, Value)>, Refusal>
+        ensures { WalkerSteps (seen view.now) self.old (stepped self.new result) }
     {
-        let s = step(*self, array, entries, index, sizes);
+        let s = step(*self, view);
         *self = s.walker;
         s.answer
     }

@@ -20,15 +20,14 @@ use Rattle.value.specs.Encoding.{words}
 use Rattle.value.specs.Same.{same}
 use Rattle.value.proofs.Cases.{caseb, clash, never, iff, and_left, and_right, or_cases, or_right}
 use Rattle.value.proofs.Same.{same-eq, eq-same, same-ne}
-use Rattle.key.specs.Refusals.{key_is_nil, key_is_nan}
-use Rattle.key.specs.Canonical.{integer, number, largest, ratio, whole_of, whole_key, key_of, number_key, canonical_key}
+use Rattle.key.specs.Canonical.{integer, number, largest, ratio, whole, whole_of, whole_key, key_of, number_key, canonical_key}
 use Rattle.key.specs.Manual.{IsInteger, is_number, exact, raw_equal, saturates, exception}
-use Rattle.key.specs.declared.Whole.{Whole}
-use Rattle.key.specs.declared.Whole.TheVariants.{Is, Not}
-use Rattle.key.specs.declared.CanonicalKey.TheVariants.{Key, No}
 use Rattle.key.proofs.Ratios.{ratio-same, of-value, over-one}
 use Rattle.key.proofs.Equal.{eq-values}
 use Rattle.key.proofs.Own.{canonical-integer}
+use Rattle.std.specs.Prelude.{Option, Some, None, Result, Ok, Err}
+use Rattle.value.specs.declared.refusal.Refusal.{Refusal}
+use Rattle.value.specs.declared.refusal.Refusal.TheVariants.{KeyIsNil, KeyIsNan}
 
 -- ---- a float key that is an integer
 not-nan : (x : Float) (s : Bool) (a c : ℕ) → HasValue x s a c → is_nan x ≡ false
@@ -38,46 +37,56 @@ not-nan (inf t) s a c v = refl
 not-nan (fin t m e) s a c v = refl
 
 -- a float with an integral value that an integer can represent is that integer; of the value 2 ^ 63 see `saturated`
-pub float-integer : (b : ℕ) (s : Bool) (n : ℕ) → HasValue (of_bits binary64 b) s n 1 → n ≤ 2 ^ 63 → number_key b ≡ Key (whole_key s n)
+pub float-integer : (b : ℕ) (s : Bool) (n : ℕ) → HasValue (of_bits binary64 b) s n 1 → n ≤ 2 ^ 63 → number_key b ≡ Ok (whole_key s n)
 unfolding number_key
 float-integer b s n v l =
     rw (nan_bits_is binary64 b ∙ not-nan (of_bits binary64 b) s n 1 v, of-value (of_bits binary64 b) s n 1 (zero-lt-suc 0) v ∙ over-one s n l)
 
-ratio-value : (s t : Bool) (a c n : ℕ) → ratio s a c ≡ Is t n → (s ≡ t) × (a ≡ n * c) × (n ≤ 2 ^ 63)
+-- one whole number has one sign and one size
+sign_of : Option (Bool × ℕ) → Bool
+sign_of (Some w) = w.0
+sign_of None = false
+
+size_of : Option (Bool × ℕ) → ℕ
+size_of (Some w) = w.1
+size_of None = 0
+
+ratio-value : (s t : Bool) (a c n : ℕ) → ratio s a c ≡ whole t n → (s ≡ t) × (a ≡ n * c) × (n ≤ 2 ^ 63)
+unfolding sign_of size_of
 ratio-value s t a c n h =
     caseb (eqb (a % c) 0 && leb (a / c) (2 ^ 63))
-    (λ b. let k : Is s (a / c) ≡ Is t n = rw b at h in
-    let p : s ≡ t = cc in
-    let q : a / c ≡ n = cc in
+    (λ b. let k : whole s (a / c) ≡ whole t n = rw b at h in
+    let p : s ≡ t = ap sign_of k in
+    let q : a / c ≡ n = ap size_of k in
     let r : a % c ≡ 0 = eqb-true (a % c) 0 (and_left (eqb (a % c) 0) (leb (a / c) (2 ^ 63)) b) in
     let l : a / c ≤ 2 ^ 63 = leb-true (a / c) (2 ^ 63) (and_right (eqb (a % c) 0) (leb (a / c) (2 ^ 63)) b) in
     (p, omega (arith, div-add-mod' a c, ap (λ (y : ℕ). y * c) q), omega arith))
-    (λ b. let k : Not ≡ Is t n = rw b at h in never (cc))
+    (λ b. let k : None ≡ whole t n = rw b at h in never (cc))
 
-whole-value : (x : Float) (s : Bool) (n : ℕ) → whole_of x ≡ Is s n → HasValue x s n 1 × (n ≤ 2 ^ 63)
+whole-value : (x : Float) (s : Bool) (n : ℕ) → whole_of x ≡ whole s n → HasValue x s n 1 × (n ≤ 2 ^ 63)
 unfolding whole_of
 whole-value nan s n h = never (cc)
 whole-value (inf t) s n h = never (cc)
 whole-value (fin t m e) s n h = let k = ratio-value t s (m * up e) (down e) n h in ((k.0, mul-one (m * up e) ∙ k.1), k.2)
 
-real-key : (b : ℕ) (k : Words) → number_key b ≡ Key k → (nan_bits binary64 b ≡ false) × (k ≡ key_of b (whole_of (of_bits binary64 b)))
+real-key : (b : ℕ) (k : Words) → number_key b ≡ Ok k → (nan_bits binary64 b ≡ false) × (k ≡ key_of b (whole_of (of_bits binary64 b)))
 unfolding number_key
 real-key b k h =
     caseb (nan_bits binary64 b)
-    (λ t. let g : No key_is_nan ≡ Key k = rw t at h in never (cc))
-    (λ t. let g : Key (key_of b (whole_of (of_bits binary64 b))) ≡ Key k = rw t at h in (t, cc))
+    (λ t. let g : ◌≡◌ {A = Result Words Refusal} (Err KeyIsNan) (Ok k) = rw t at h in never (cc))
+    (λ t. let g : ◌≡◌ {A = Result Words Refusal} (Ok (key_of b (whole_of (of_bits binary64 b)))) (Ok k) = rw t at h in (t, cc))
 
 -- and no other float has an integer for its key
-pub integer-float : (b : ℕ) (k : Words) → number_key b ≡ Key k → k.kind ≡ 2 → IsInteger b k
+pub integer-float : (b : ℕ) (k : Words) → number_key b ≡ Ok k → k.kind ≡ 2 → IsInteger b k
 integer-float b k h i = go (whole_of (of_bits binary64 b)) refl (real-key b k h).1
   where
-    go : (w : Whole) → whole_of (of_bits binary64 b) ≡ w → k ≡ key_of b w → IsInteger b k
-    go (Is s n) e p = let v = whole-value (of_bits binary64 b) s n e in record { sign = s; size = n; value = v.0; small = v.1; key = p }
-    go Not e p = let z : ◌≡◌ {A = ℕ} 2 3 = sym i ∙ ap (λ (y : Words). y.kind) p in absurd (omega arith)
+    go : (w : Option (Bool × ℕ)) → whole_of (of_bits binary64 b) ≡ w → k ≡ key_of b w → IsInteger b k
+    go (Some (s, n)) e p = let v = whole-value (of_bits binary64 b) s n e in record { sign = s; size = n; value = v.0; small = v.1; key = p }
+    go None e p = let z : ◌≡◌ {A = ℕ} 2 3 = sym i ∙ ap (λ (y : Words). y.kind) p in absurd (omega arith)
 
 -- ---- the exception
 -- the Number 2 ^ 63 has the largest integer for its key
-pub saturated : canonical_key (number 0x43e0000000000000) ≡ Key (integer largest)
+pub saturated : canonical_key (number 0x43e0000000000000) ≡ Ok (integer largest)
 unfolding canonical_key
 saturated = float-integer 0x43e0000000000000 false (2 ^ 63) (unfold of_bits in (refl, refl)) (lit≤ tt)
 
@@ -175,7 +184,7 @@ levels false false n m l k o w h = let q : n ≡ m = sym (plain n l o).0 ∙ h �
 record Denotes (x : Float) (k : Words) : Type 0 where
   key : k ≡ key_in x
   real : is_nan x ≡ false
-  held : whole_of x ≡ Not → T (fits binary64 x)
+  held : whole_of x ≡ None → T (fits binary64 x)
 
 eq_self : (x : Float) → is_nan x ≡ false → eq x x ≡ true
 unfolding is_nan
@@ -189,15 +198,15 @@ whole-kind false n = caseb (eqb n (2 ^ 63)) (λ t. rw t) (λ t. rw t)
 key-eq : (x y : Float) (k : Words) → Denotes x k → Denotes y k → NotLargest k → eq x y ≡ true
 key-eq x y k a b o = go (whole_of x) (whole_of y) refl refl (sym a.key ∙ b.key)
   where
-    go : (w z : Whole) → whole_of x ≡ w → whole_of y ≡ z → key_of (to_bits binary64 x) w ≡ key_of (to_bits binary64 y) z → eq x y ≡ true
-    go (Is s n) (Is t m) p q h =
+    go : (w z : Option (Bool × ℕ)) → whole_of x ≡ w → whole_of y ≡ z → key_of (to_bits binary64 x) w ≡ key_of (to_bits binary64 y) z → eq x y ≡ true
+    go (Some (s, n)) (Some (t, m)) p q h =
         let v = whole-value x s n p in
         let w = whole-value y t m q in
         eq-values x y s t n 1 m 1 (zero-lt-suc 0) (zero-lt-suc 0) v.0 w.0
         ∙ levels s t n m v.1 w.1 (λ e. o (a.key ∙ ap (key_of (to_bits binary64 x)) p ∙ e)) (λ e. o (b.key ∙ ap (key_of (to_bits binary64 y)) q ∙ e)) (ap (λ (u : Words). u.payload) h)
-    go (Is s n) Not p q h = let z : ◌≡◌ {A = ℕ} 2 3 = sym (whole-kind s n) ∙ ap (λ (u : Words). u.kind) h in absurd (omega arith)
-    go Not (Is t m) p q h = let z : ◌≡◌ {A = ℕ} 3 2 = ap (λ (u : Words). u.kind) h ∙ whole-kind t m in absurd (omega arith)
-    go Not Not p q h =
+    go (Some (s, n)) None p q h = let z : ◌≡◌ {A = ℕ} 2 3 = sym (whole-kind s n) ∙ ap (λ (u : Words). u.kind) h in absurd (omega arith)
+    go None (Some (t, m)) p q h = let z : ◌≡◌ {A = ℕ} 3 2 = ap (λ (u : Words). u.kind) h ∙ whole-kind t m in absurd (omega arith)
+    go None None p q h =
         let e : to_bits binary64 x ≡ to_bits binary64 y = ap (λ (u : Words). u.payload) h in
         let z : x ≡ y = sym (of_bits-to_bits binary64 x (a.held p)) ∙ ap (of_bits binary64) e ∙ of_bits-to_bits binary64 y (b.held q) in
         ap (eq x) (sym z) ∙ eq_self x a.real
@@ -206,7 +215,7 @@ key-eq x y k a b o = go (whole_of x) (whole_of y) refl refl (sym a.key ∙ b.key
 whole-denotes : (s : Bool) (n p : ℕ) → n ≤ 2 ^ 63 → whole_key s n ≡ integer p → Denotes (fin s n (pos 0)) (integer p)
 unfolding is_nan
 whole-denotes s n p l k =
-    let w : whole_of (fin s n (pos 0)) ≡ Is s n = of-value (fin s n (pos 0)) s n 1 (zero-lt-suc 0) (refl, mul-one (n * 1)) ∙ over-one s n l in
+    let w : whole_of (fin s n (pos 0)) ≡ whole s n = of-value (fin s n (pos 0)) s n 1 (zero-lt-suc 0) (refl, mul-one (n * 1)) ∙ over-one s n l in
     record {
       key = sym (ap (key_of (to_bits binary64 (fin s n (pos 0)))) w ∙ k);
       real = refl;
@@ -223,7 +232,7 @@ integer-denotes p l =
     (λ t. let g : p < 2 ^ 63 = leb-false (2 ^ 63) p t in
     rw t (whole-denotes false p p (omega arith) (rw (ne_eqb p (2 ^ 63) (λ e. omega arith)))))
 
-number-denotes : (b : ℕ) (k : Words) → b < 2 ^ 64 → number_key b ≡ Key k → Denotes (of_bits binary64 b) k
+number-denotes : (b : ℕ) (k : Words) → b < 2 ^ 64 → number_key b ≡ Ok k → Denotes (of_bits binary64 b) k
 number-denotes b k l h =
     let r : is_nan (of_bits binary64 b) ≡ false = sym (nan_bits_is binary64 b) ∙ (real-key b k h).0 in
     let t : to_bits binary64 (of_bits binary64 b) ≡ b = to_bits-of_bits binary64 b l (rw r tt) in
@@ -233,7 +242,7 @@ number-denotes b k l h =
       held = λ e. of_bits-fits binary64 b;
     }
 
-denotes : (u k : Words) → u.payload < 2 ^ 64 → canonical_key u ≡ Key k → is_number u ≡ true → Denotes (exact u) k
+denotes : (u k : Words) → u.payload < 2 ^ 64 → canonical_key u ≡ Ok k → is_number u ≡ true → Denotes (exact u) k
 unfolding canonical_key exact
 denotes u k l h i = elim (or_cases (eqb u.kind 2) (eqb u.kind 3) i) [
   | inl t ↦ at 2 (eqb-true u.kind 2 t) (λ g. let e : integer p ≡ k = cc in subst (Denotes (exact (integer p))) e (integer-denotes p l))
@@ -243,26 +252,26 @@ denotes u k l h i = elim (or_cases (eqb u.kind 2) (eqb u.kind 3) i) [
     p : ℕ
     p = u.payload
 
-    at : (c : ℕ) → u.kind ≡ c → (canonical_key (words c p) ≡ Key k → Denotes (exact (words c p)) k) → Denotes (exact u) k
-    at c q f = subst (λ (c : ℕ). canonical_key (words c p) ≡ Key k → Denotes (exact (words c p)) k) (sym q) f h
+    at : (c : ℕ) → u.kind ≡ c → (canonical_key (words c p) ≡ Ok k → Denotes (exact (words c p)) k) → Denotes (exact u) k
+    at c q f = subst (λ (c : ℕ). canonical_key (words c p) ≡ Ok k → Denotes (exact (words c p)) k) (sym q) f h
 
 -- ---- a value that is no Number is its own key
-own : (u k : Words) → canonical_key u ≡ Key k → eqb u.kind 3 ≡ false → k ≡ u
+own : (u k : Words) → canonical_key u ≡ Ok k → eqb u.kind 3 ≡ false → k ≡ u
 unfolding canonical_key
 own u k h i =
     caseb (eqb u.kind 0)
-    (λ t. let g : No key_is_nil ≡ Key k = rw t at h in never (cc))
-    (λ t. let g : Key u ≡ Key k = rw (t, i) at h in cc)
+    (λ t. let g : ◌≡◌ {A = Result Words Refusal} (Err KeyIsNil) (Ok k) = rw t at h in never (cc))
+    (λ t. let g : ◌≡◌ {A = Result Words Refusal} (Ok u) (Ok k) = rw (t, i) at h in cc)
 
-other : (u k : Words) → canonical_key u ≡ Key k → is_number u ≡ false → k ≡ u
+other : (u k : Words) → canonical_key u ≡ Ok k → is_number u ≡ false → k ≡ u
 other u k h i = own u k h (caseb (eqb u.kind 3) (λ v. clash (or_right (eqb u.kind 2) (eqb u.kind 3) v) i) (λ v. v))
 
-key-number : (u k : Words) → canonical_key u ≡ Key k → (is_number u ≡ true → Denotes (exact u) k) → is_number k ≡ is_number u
+key-number : (u k : Words) → canonical_key u ≡ Ok k → (is_number u ≡ true → Denotes (exact u) k) → is_number k ≡ is_number u
 key-number u k h d = caseb (is_number u) (λ t. ap is_number (d t).key ∙ kinds (whole_of (exact u)) ∙ sym t) (λ t. ap is_number (other u k h t))
   where
-    kinds : (w : Whole) → is_number (key_of (to_bits binary64 (exact u)) w) ≡ true
-    kinds (Is s n) = rw (whole-kind s n)
-    kinds Not = refl
+    kinds : (w : Option (Bool × ℕ)) → is_number (key_of (to_bits binary64 (exact u)) w) ≡ true
+    kinds (Some (s, n)) = rw (whole-kind s n)
+    kinds None = refl
 
 -- ---- the largest integer is the key of itself and of the Number 2 ^ 63 alone
 -- the only Number with the value 2 ^ 63
@@ -289,7 +298,7 @@ not-largest (fin t m e) f v =
     back : HasValue (of_bits binary64 cut) false largest 1 → ⊥
     back w = unfold of_bits in let z : 9223372036854774784 ≡ largest = w.1 in omega arith
 
-number-largest : (b : ℕ) → b < 2 ^ 64 → number_key b ≡ Key (integer largest) → b ≡ 0x43e0000000000000
+number-largest : (b : ℕ) → b < 2 ^ 64 → number_key b ≡ Ok (integer largest) → b ≡ 0x43e0000000000000
 number-largest b l h = let i = integer-float b (integer largest) h refl in go i.sign i.size i.value i.small (ap (λ (w : Words). w.payload) i.key)
   where
     x : Float
@@ -302,29 +311,29 @@ number-largest b l h = let i = integer-float b (integer largest) h refl in go i.
         (λ t. sym (to_bits-of_bits binary64 b l (rw (not-nan x false n 1 v) tt)) ∙ top-bits x (subst (λ (y : ℕ). HasValue x false y 1) (eqb-true n (2 ^ 63) t) v))
         (λ t. let e : largest ≡ n = rw t at k in absurd (not-largest x (of_bits-fits binary64 b) (subst (λ (y : ℕ). HasValue x false y 1) (sym e) v)))
 
-pub largest-key : (u : Words) → u.payload < 2 ^ 64 → canonical_key u ≡ Key (integer largest) → (u ≡ number 0x43e0000000000000) ⊎ (u ≡ integer largest)
+pub largest-key : (u : Words) → u.payload < 2 ^ 64 → canonical_key u ≡ Ok (integer largest) → (u ≡ number 0x43e0000000000000) ⊎ (u ≡ integer largest)
 unfolding canonical_key
 largest-key u l h =
     caseb (eqb u.kind 3)
     (λ t. let q : u.kind ≡ 3 = eqb-true u.kind 3 t in
-    let g : number_key u.payload ≡ Key (integer largest) = rw q at h in
+    let g : number_key u.payload ≡ Ok (integer largest) = rw q at h in
     let e = number-largest u.payload l g in
     inl (λ i. words (q i) (e i)))
     (λ t. inr (sym (own u (integer largest) h t)))
 
 -- ---- equality
 -- equal values have one key
-joined : (u v k j : Words) → u.payload < 2 ^ 64 → v.payload < 2 ^ 64 → canonical_key u ≡ Key k → canonical_key v ≡ Key j → raw_equal u v ≡ true → k ≡ j
+joined : (u v k j : Words) → u.payload < 2 ^ 64 → v.payload < 2 ^ 64 → canonical_key u ≡ Ok k → canonical_key v ≡ Ok j → raw_equal u v ≡ true → k ≡ j
 unfolding raw_equal
 joined u v k j lu lv hu hv e =
     caseb (is_number u && is_number v)
     (λ t. let a : Denotes (exact u) k = denotes u k lu hu (and_left (is_number u) (is_number v) t) in
     let b : Denotes (exact v) j = denotes v j lv hv (and_right (is_number u) (is_number v) t) in
     a.key ∙ eq-key (exact u) (exact v) (rw t at e) ∙ sym b.key)
-    (λ t. let p : Key k ≡ Key j = sym hu ∙ ap canonical_key (same-eq u v (rw t at e)) ∙ hv in cc)
+    (λ t. let p : ◌≡◌ {A = Result Words Refusal} (Ok k) (Ok j) = sym hu ∙ ap canonical_key (same-eq u v (rw t at e)) ∙ hv in cc)
 
 -- values of one key are equal, but where that is the largest integer
-equal : (u v k : Words) → u.payload < 2 ^ 64 → v.payload < 2 ^ 64 → canonical_key u ≡ Key k → canonical_key v ≡ Key k → NotLargest k → raw_equal u v ≡ true
+equal : (u v k : Words) → u.payload < 2 ^ 64 → v.payload < 2 ^ 64 → canonical_key u ≡ Ok k → canonical_key v ≡ Ok k → NotLargest k → raw_equal u v ≡ true
 unfolding raw_equal
 equal u v k lu lv hu hv o =
     caseb (is_number u && is_number v)
@@ -349,12 +358,12 @@ tops u v (inr a) (inl b) o = clash (rw (a, b)) o
 tops u v (inr a) (inr b) o = rw (a, b)
 
 -- two values are one key exactly when raw equality joins them, but for the Number 2 ^ 63 and the largest Integer
-pub same_key : (u v k j : Words) → u.payload < 2 ^ 64 → v.payload < 2 ^ 64 → exception u v ≡ false → canonical_key u ≡ Key k → canonical_key v ≡ Key j → raw_equal u v ≡ same k j
+pub same_key : (u v k j : Words) → u.payload < 2 ^ 64 → v.payload < 2 ^ 64 → exception u v ≡ false → canonical_key u ≡ Ok k → canonical_key v ≡ Ok j → raw_equal u v ≡ same k j
 same_key u v k j lu lv o hu hv = iff (raw_equal u v) (same k j) (λ e. eq-same k j (joined u v k j lu lv hu hv e)) (λ e. back (same-eq k j e))
   where
     back : k ≡ j → raw_equal u v ≡ true
     back e =
-        let g : canonical_key v ≡ Key k = hv ∙ ap Key (sym e) in
+        let g : canonical_key v ≡ Ok k = hv ∙ ap Ok (sym e) in
         caseb (same k (integer largest))
-        (λ t. let q : Key k ≡ Key (integer largest) = ap Key (same-eq k (integer largest) t) in tops u v (largest-key u lu (hu ∙ q)) (largest-key v lv (g ∙ q)) o)
+        (λ t. let q : ◌≡◌ {A = Result Words Refusal} (Ok k) (Ok (integer largest)) = ap Ok (same-eq k (integer largest) t) in tops u v (largest-key u lu (hu ∙ q)) (largest-key v lv (g ∙ q)) o)
         (λ t. equal u v k lu lv hu g (same-ne k (integer largest) t))

@@ -18,15 +18,12 @@ use mir.Val.{SFits, of_z, to_z}
 use mir.Facts.{to_z-of_z}
 use Rattle.value.specs.declared.Words.{Words}
 use Rattle.value.proofs.Cases.{caseb, clash, never, iff, and_left, and_right}
-use Rattle.key.specs.Refusals.{key_is_nan}
-use Rattle.key.specs.Canonical.{integer, number, largest, whole_of, whole_key, key_of, number_key, canonical_key, on_key, array_index}
+use Rattle.key.specs.Canonical.{integer, number, largest, whole, whole_of, whole_key, key_of, number_key, canonical_key, on_key, array_index}
 use Rattle.key.specs.Original.{f64_to_i64, from_i64, canonical_float_bytes, original_number_key, original_key, original_index}
-use Rattle.key.specs.declared.Whole.{Whole}
-use Rattle.key.specs.declared.Whole.TheVariants.{Is, Not}
-use Rattle.key.specs.declared.CanonicalKey.TheVariants.{Key, No}
-use Rattle.key.specs.declared.ArrayIndex.TheVariants.{At, Nothing}
 use Rattle.key.proofs.Ratios.{of-value, over-one, Small, small}
 use Rattle.key.proofs.Equal.{eq-values}
+use Rattle.std.specs.Prelude.{Option, Some, None, Ok, Err}
+use Rattle.value.specs.declared.refusal.Refusal.TheVariants.{KeyIsNan}
 
 -- ---- a float's cut, as a float again
 -- a float has at most 53 digits
@@ -112,9 +109,9 @@ comes_back s m e t = rw (to_signed-is s m e) (compared s (min q (2 ^ 63)) m e (l
         (λ l. let k : min q (2 ^ 63) ≡ 2 ^ 63 = omega (arith, leb-false q (2 ^ 63) l) in rw k (end-held s))
 
 -- ---- the original's f64_to_i64
-abbrev on_whole : {X : Type 0} → Whole → (ℤ → X) → X → X
-on_whole (Is s n) some none = some (signed s n)
-on_whole Not some none = none
+abbrev on_whole : {X : Type 0} → Option (Bool × ℕ) → (ℤ → X) → X → X
+on_whole (Some (s, n)) some none = some (signed s n)
+on_whole None some none = none
 
 no-equal : (y : Float) → eq y nan ≡ false
 unfolding eq
@@ -152,13 +149,13 @@ signed-key true (suc n) l = ap integer (omega arith)
 signed-key false n l = caseb (eqb n (2 ^ 63)) (λ t. rw t (ap integer (omega (arith, eqb-true n (2 ^ 63) t)))) (λ t. rw t (ap integer (uncapped n l (eqb-false n (2 ^ 63) t))))
 
 -- the zeros are whole: where a Number stays one, the original keeps its bits
-bytes : (x : Float) (b : ℕ) → whole_of x ≡ Not → canonical_float_bytes x b ≡ b
+bytes : (x : Float) (b : ℕ) → whole_of x ≡ None → canonical_float_bytes x b ≡ b
 unfolding eq
 bytes nan b h = refl
 bytes (inf s) b h = refl
 bytes (fin s m e) b h =
     caseb (eq (fin s m e) (fin false 0 (pos 0)))
-    (λ t. let k : whole_of (fin s m e) ≡ Is s 0 = of-value (fin s m e) s 0 1 (zero-lt-suc 0) (refl, eqb-true _ _ (and_left _ _ t)) ∙ over-one s 0 (lit≤ tt) in
+    (λ t. let k : whole_of (fin s m e) ≡ whole s 0 = of-value (fin s m e) s 0 1 (zero-lt-suc 0) (refl, eqb-true _ _ (and_left _ _ t)) ∙ over-one s 0 (lit≤ tt) in
     never (cc))
     (λ t. rw t)
 
@@ -166,14 +163,14 @@ number-key : (b : ℕ) → original_number_key (of_bits binary64 b) b ≡ number
 unfolding original_number_key number_key
 number-key b =
     rw (nan_bits_is binary64 b, to-integer x (λ (i : ℤ). integer (of_z w64 i)) (number (canonical_float_bytes x b)) (of_bits-fits binary64 b))
-    (ap (λ (k : Words). cond (is_nan x) (No key_is_nan) (Key k)) (go (whole_of x) refl (small x)))
+    (ap (λ (k : Words). cond (is_nan x) (Err KeyIsNan) (Ok k)) (go (whole_of x) refl (small x)))
   where
     x : Float
     x = of_bits binary64 b
 
-    go : (w : Whole) → whole_of x ≡ w → Small w → on_whole w (λ (i : ℤ). integer (of_z w64 i)) (number (canonical_float_bytes x b)) ≡ key_of b w
-    go (Is s n) e l = signed-key s n l
-    go Not e l = ap number (bytes x b e)
+    go : (w : Option (Bool × ℕ)) → whole_of x ≡ w → Small w → on_whole w (λ (i : ℤ). integer (of_z w64 i)) (number (canonical_float_bytes x b)) ≡ key_of b w
+    go (Some (s, n)) e l = signed-key s n l
+    go None e l = ap number (bytes x b e)
 
 -- the canonical key is the original's CanonicalKey::new
 pub original-key : (w : Words) → original_key w ≡ canonical_key w
@@ -181,7 +178,7 @@ unfolding original_key canonical_key
 original-key w = rw (number-key w.payload)
 
 -- ---- the array index
-nan-not : (x : Float) → is_nan x ≡ true → whole_of x ≡ Not
+nan-not : (x : Float) → is_nan x ≡ true → whole_of x ≡ None
 unfolding is_nan whole_of
 nan-not nan t = refl
 nan-not (inf s) t = clash t refl
@@ -192,7 +189,7 @@ unfolding array_index
 integer-index zero = refl
 integer-index (suc p) =
     caseb (ltb (suc p) (2 ^ 63))
-    (λ t. let l : leb (suc p) largest ≡ true = le-leb (suc p) largest (omega (arith, ltb-true (suc p) (2 ^ 63) t)) in rw (t, l, lt-ltb 0 (suc p) (zero-lt-suc p)) (ap At (omega arith)))
+    (λ t. let l : leb (suc p) largest ≡ true = le-leb (suc p) largest (omega (arith, ltb-true (suc p) (2 ^ 63) t)) in rw (t, l, lt-ltb 0 (suc p) (zero-lt-suc p)) (ap Some (omega arith)))
     (λ t. let l : leb (suc p) largest ≡ false = lt-leb (suc p) largest (omega (arith, ltb-false (suc p) (2 ^ 63) t)) in rw (t, l, lt-ltb 0 (suc p) (zero-lt-suc p)))
 
 signed-fits : (s : Bool) (n : ℕ) → n ≤ 2 ^ 63 → SFits w64 (signed s n)
@@ -203,21 +200,21 @@ signed-fits false n l = record { sfits = omega arith }
 signed-index : (s : Bool) (n : ℕ) → n ≤ 2 ^ 63 → from_i64 (signed s n) ≡ array_index (whole_key s n)
 signed-index s n l = ap from_i64 (sym (to_z-of_z (signed-fits s n l))) ∙ integer-index (of_z w64 (signed s n)) ∙ ap array_index (signed-key s n l)
 
-number-index : (b : ℕ) → f64_to_i64 (of_bits binary64 b) from_i64 Nothing ≡ on_key (number_key b) (λ (n : ℕ). Nothing) array_index
+number-index : (b : ℕ) → f64_to_i64 (of_bits binary64 b) from_i64 None ≡ on_key (number_key b) (λ (n : ℕ). None) array_index
 unfolding number_key array_index
 number-index b =
-    to-integer x from_i64 Nothing (of_bits-fits binary64 b)
+    to-integer x from_i64 None (of_bits-fits binary64 b)
     ∙ caseb (nan_bits binary64 b) (λ t. rw (t, nan-not x (sym (nan_bits_is binary64 b) ∙ t))) (λ t. rw t (go (whole_of x) (small x)))
   where
     x : Float
     x = of_bits binary64 b
 
-    go : (w : Whole) → Small w → on_whole w from_i64 Nothing ≡ array_index (key_of b w)
-    go (Is s n) l = signed-index s n l
-    go Not l = refl
+    go : (w : Option (Bool × ℕ)) → Small w → on_whole w from_i64 None ≡ array_index (key_of b w)
+    go (Some (s, n)) l = signed-index s n l
+    go None l = refl
 
 -- the array index of the canonical key is the original's to_array_index of the value
-pub original-index : (w : Words) → original_index w ≡ on_key (canonical_key w) (λ (n : ℕ). Nothing) array_index
+pub original-index : (w : Words) → original_index w ≡ on_key (canonical_key w) (λ (n : ℕ). None) array_index
 unfolding original_index canonical_key
 original-index w =
     caseb (eqb w.kind 0)

@@ -1,4 +1,3 @@
-pub mod Refusals
 pub mod Canonical
 pub mod Manual
 pub mod Original

@@ -5,42 +5,9 @@
 ghost use Rattle.std.specs.Prelude.{◌≡◌, ◌≤◌, ◌<◌, ◌^◌};
 ghost use Rattle.std.specs.Float.{binary64};
 ghost use Rattle.std.specs.Float.Ieee.{of_bits, of_fields, size};
-ghost use Rattle.key.specs.Canonical.{whole_of, whole_key, number_key, canonical_key, on_key, array_index};
+ghost use Rattle.key.specs.Canonical.{whole_of, whole_key, number_key, canonical_key, array_index};
 
-use value::Words;
-
-// The paper's refusal numbers. The first two say why a key has no canonical form.
-pub const KEY_IS_NIL: u8 = 1;
-
-pub const KEY_IS_NAN: u8 = 2;
-
-pub const NO_ROOM: u8 = 3;
-
-pub const WRONG_SHAPE: u8 = 4;
-
-// Not the paper's, which speaks of values alone: the words that were passed are no value's.
-pub const NO_VALUE: u8 = 15;
-
-// A key's canonical form, or why it has none.
-#[derive(Clone, Copy)]
-pub enum CanonicalKey {
-    Key(Words),
-    No(u8),
-}
-
-// The array index of a canonical key.
-#[derive(Clone, Copy)]
-pub enum ArrayIndex {
-    At(u64),
-    Nothing,
-}
-
-// Whether a float is a whole number of size at most 2^63: its sign and its size.
-#[derive(Clone, Copy)]
-pub enum Whole {
-    Is(bool, u64),
-    Not,
-}
+use value::{Refusal, Words};
 
 fn power(k: u64) -> u64
     requires { k < 64 }
@@ -49,38 +16,37 @@ fn power(k: u64) -> u64
     1u64 << k
 }
 
-// Worked out from the sign, the exponent's field and the digits' field.
-fn whole_of_fields(negative: bool, exponent: u64, digits: u64) -> Whole
+// Whether a float is a whole number of size at most 2^63: its sign and its size, worked out from the sign, the exponent's field and the
+// digits' field.
+fn whole_of_fields(negative: bool, exponent: u64, digits: u64) -> Option<(bool, u64)>
     requires { digits < 2 ^ 52 }
     ensures { result ≡ whole_of (of_fields binary64 negative exponent digits) }
 {
     if exponent < 1023 {
-        if exponent == 0 {
-            if digits == 0 {
-                return Whole::Is(negative, 0);
-            }
+        if exponent == 0 && digits == 0 {
+            return Some((negative, 0));
         }
-        return Whole::Not;
+        return None;
     }
     if exponent > 1086 {
-        return Whole::Not;
+        return None;
     }
     let all = 0x10_0000_0000_0000 + digits;
     if exponent < 1075 {
         let unit = power(1075 - exponent);
         if all % unit == 0 {
-            return Whole::Is(negative, all / unit);
+            return Some((negative, all / unit));
         }
-        return Whole::Not;
+        return None;
     }
     let n = all * power(exponent - 1075);
     if n > 0x8000_0000_0000_0000 {
-        return Whole::Not;
+        return None;
     }
-    Whole::Is(negative, n)
+    Some((negative, n))
 }
 
-fn whole_of_bits(bits: u64) -> Whole
+fn whole_of_bits(bits: u64) -> Option<(bool, u64)>
     ensures { result ≡ whole_of (of_bits binary64 bits) }
 {
     whole_of_fields(
@@ -96,81 +62,48 @@ fn whole_key(negative: bool, size: u64) -> Words
     ensures { result ≡ whole_key negative size }
 {
     if negative {
-        if size == 0 {
-            return Words {
-                kind: 2,
-                payload: 0,
-            };
-        }
-        return Words {
-            kind: 2,
-            payload: u64::MAX - (size - 1),
-        };
+        return Words::new(2, size.wrapping_neg());
     }
     if size == 0x8000_0000_0000_0000 {
-        return Words {
-            kind: 2,
-            payload: 0x7fff_ffff_ffff_ffff,
-        };
+        return Words::new(2, 0x7fff_ffff_ffff_ffff);
     }
-    Words {
-        kind: 2,
-        payload: size,
-    }
+    Words::new(2, size)
 }
 
-fn number_key(bits: u64) -> CanonicalKey
+fn number_key(bits: u64) -> Result<Words, Refusal>
     ensures { result ≡ number_key bits }
 {
     if value::is_nan(bits) {
-        return CanonicalKey::No(KEY_IS_NAN);
+        return Err(Refusal::KeyIsNan);
     }
     match whole_of_bits(bits) {
-        Whole::Is(negative, size) => CanonicalKey::Key(whole_key(negative, size)),
-        Whole::Not => CanonicalKey::Key(Words {
-            kind: 3,
-            payload: bits,
-        }),
+        Some((negative, size)) => Ok(whole_key(negative, size)),
+        None => Ok(Words::new(3, bits)),
     }
 }
 
-pub fn canonical_key(key: Words) -> CanonicalKey
+pub fn canonical_key(key: Words) -> Result<Words, Refusal>
     ensures { result ≡ canonical_key key }
 {
-    let kind = key.kind;
-    match kind {
-        0 => CanonicalKey::No(KEY_IS_NIL),
+    match key.kind {
+        0 => Err(Refusal::KeyIsNil),
         3 => number_key(key.payload),
-        _ => CanonicalKey::Key(key),
+        _ => Ok(key),
     }
 }
 
-// The refusal number of a key that has no canonical form; 0 for one that has.
-pub fn refusal(key: CanonicalKey) -> u8
-    ensures { result ≡ on_key key (λ n. n) (λ k. 0) }
-{
-    match key {
-        CanonicalKey::Key(_) => 0,
-        CanonicalKey::No(n) => n,
-    }
-}
-
-pub fn array_index(key: Words) -> ArrayIndex
+pub fn array_index(key: Words) -> Option<u64>
     ensures { result ≡ array_index key }
 {
-    if key.kind == 2 {
-        if 0 < key.payload {
-            if key.payload < 0x8000_0000_0000_0000 {
-                return ArrayIndex::At(key.payload - 1);
-            }
-        }
+    if key.kind == 2 && 0 < key.payload && key.payload < 0x8000_0000_0000_0000 {
+        return Some(key.payload - 1);
     }
-    ArrayIndex::Nothing
+    None
 }
 
 // The class of an index: its count of significant bits.
 pub fn highest_bit(index: u64) -> u32
     ensures { result ≡ size index }
 {
-    64 - u64::leading_zeros(index)
+    64 - index.leading_zeros()
 }

@@ -1,4 +1,3 @@
 pub mod Says
-pub mod Cleared
 pub mod Lent
 pub mod Put

@@ -5,54 +5,12 @@
 // them.
 #![tactic(auto)]
 
-ghost use Rattle.std.specs.Prelude.{◌+◌, ◌≤◌, length, IfOk};
-
 use calls::Call;
 use index::Word;
 use std::io;
-use store::Record;
+use store::{Record, View};
 
-// The kinds of call; those of the trace have its numbers. FRESH begins a sequence.
-const GET: u64 = 1;
-
-const SET: u64 = 2;
-
-const LENGTH: u64 = 3;
-
-const NEXT: u64 = 4;
-
-const RESERVE: u64 = 5;
-
-const FRESH: u64 = 6;
-
-const RECORD: u64 = 7;
-
-const CHECK: u64 = 8;
-
-const FILL: u64 = 9;
-
-const WALK: u64 = 10;
-
-// A call that reads.
-fn read(
-    rt: &impl Print,
-    array: &[u64],
-    entries: &[u64],
-    index: &[Word],
-    sizes: Record,
-    call: Call,
-) -> io::Result<()> {
-    match call.kind {
-        GET => lines::call_get(rt, array, entries, index, sizes, call),
-        LENGTH => lines::call_length(rt, array, entries, index, sizes),
-        NEXT => lines::call_next(rt, array, entries, index, sizes, call),
-        CHECK => lines::show_store(rt, array, entries, index, sizes),
-        WALK => lines::call_walk(rt, array, entries, index, sizes, call),
-        _ => println!(rt; "unknown"),
-    }
-}
-
-// A call, and the record after it.
+// A call, and the record after it. A fresh store is no call of a sequence: it begins one.
 fn perform(
     rt: &impl Print,
     array: &mut [u64],
@@ -61,141 +19,102 @@ fn perform(
     sizes: Record,
     call: Call,
 ) -> io::Result<Record> {
-    match call.kind {
-        SET => lines::call_set(rt, array, entries, index, sizes, call),
-        RESERVE => lines::call_reserve(rt, array, entries, index, sizes, call),
-        RECORD => lines::call_record(rt, call),
-        FILL => lines::call_fill(rt, array, entries, index, sizes, call),
-        _ => {
-            read(rt, array, entries, index, sizes, call)?;
-            Ok(sizes)
+    let view = View {
+        array,
+        entries,
+        index,
+        sizes,
+    };
+    match call {
+        Call::Get(key) => lines::call_get(rt, &view, key)?,
+        Call::Length => lines::call_length(rt, &view)?,
+        Call::Next(key) => lines::call_next(rt, &view, key)?,
+        Call::Check => lines::call_check(rt, &view)?,
+        Call::Walk(most) => lines::call_walk(rt, &view, most)?,
+        Call::Set(key, v) => return lines::call_set(rt, array, entries, index, sizes, key, v),
+        Call::Reserve(n) => return lines::call_reserve(rt, array, entries, index, sizes, n),
+        Call::Fill { first, end } => {
+            return lines::call_fill(rt, array, entries, index, sizes, first, end);
         }
+        Call::Record(sizes) => return lines::call_record(rt, sizes),
+        Call::Fresh { .. } | Call::Unknown => println!(rt; "unknown")?,
     }
+    Ok(sizes)
 }
 
-// The number of a sequence, and the lengths of its slices.
-fn show_fresh(rt: &impl Print, call: Call) -> io::Result<()> {
-    let number = call.d;
-    println!(rt; "sequence {number}")?;
-    print!(rt; "fresh")?;
-    console::show_number(rt, call.a)?;
-    console::show_number(rt, call.b)?;
-    console::show_number(rt, call.c)
+// Calls that have no store.
+fn skip(rt: &impl Print, records: &[[u64; 5]]) -> io::Result<()> {
+    for _ in records {
+        println!(rt; "no sequence")?;
+    }
+    Ok(())
 }
 
-fn call_fresh(
-    rt: &impl Print,
-    array: &mut [u64],
-    entries: &mut [u64],
-    index: &mut [Word],
-    call: Call,
-) -> io::Result<Record> {
-    show_fresh(rt, call)?;
-    lines::show_made(rt, store::fresh(array, entries, index))
-}
-
-// A fresh store, and the calls on it up to the next; the answer is where they end.
+// A fresh store in slices of the lengths that the first record gives, and the other calls on it.
 fn sequence(
     rt: &impl Print,
     array: &mut [u64],
     entries: &mut [u64],
     index: &mut [Word],
-    words: &[u64],
-    from: usize,
-) -> io::Result<usize>
-    requires { from + 5 ≤ length words.now }
-    ensures { IfOk result (λ end. (from + 5 ≤ end) × (end ≤ length words.now)) }
-{
-    let mut sizes = call_fresh(rt, array, entries, index, calls::call_at(words, from))?;
-    let mut at = from + calls::FIELDS;
-    while calls::FIELDS <= words.len() - at {
-        let call = calls::call_at(words, at);
-        if call.kind == FRESH {
-            return Ok(at);
-        }
-        sizes = perform(rt, array, entries, index, sizes, call)?;
-        at += calls::FIELDS;
-    }
-    Ok(at)
-}
-
-// A sequence in the first so many words of each slice.
-fn sequence_in(
-    rt: &impl Print,
-    array: &mut [u64],
-    entries: &mut [u64],
-    index: &mut [Word],
-    a: usize,
-    e: usize,
-    n: usize,
-    words: &[u64],
-    from: usize,
-) -> io::Result<usize>
-    requires { (a ≤ length array.old) × (e ≤ length entries.old) × (n ≤ length index.old) × (from + 5 ≤ length words.now) }
-    ensures { IfOk result (λ end. (from + 5 ≤ end) × (end ≤ length words.now)) }
-{
-    sequence(
-        rt,
-        &mut array[0..a],
-        &mut entries[0..e],
-        &mut index[0..n],
-        words,
-        from,
-    )
-}
-
-// The sequence that begins at a place, in slices of the lengths that its first record gives.
-fn sequence_at(
-    rt: &impl Print,
-    array: &mut [u64],
-    entries: &mut [u64],
-    index: &mut [Word],
-    words: &[u64],
-    at: usize,
-) -> io::Result<usize>
-    requires { at + 5 ≤ length words.now }
-    ensures { IfOk result (λ end. (at + 5 ≤ end) × (end ≤ length words.now)) }
-{
-    let call = calls::call_at(words, at);
-    if call.kind != FRESH {
-        println!(rt; "no sequence")?;
-        return Ok(at + calls::FIELDS);
-    }
-    let a = call.a as usize;
-    let e = call.b as usize;
-    let n = call.c as usize;
-    if array.len() < a || entries.len() < e || index.len() < n {
+    records: &[[u64; 5]],
+) -> io::Result<()> {
+    let [first, others @ ..] = records else {
+        return Ok(());
+    };
+    let Call::Fresh {
+        array: a,
+        entries: e,
+        index: n,
+        number,
+    } = Call::from(*first)
+    else {
+        return skip(rt, records);
+    };
+    let (Some(array), Some(entries), Some(index)) = (
+        array.get_mut(..a),
+        entries.get_mut(..e),
+        index.get_mut(..n),
+    ) else {
         println!(rt; "too long")?;
-        return Ok(at + calls::FIELDS);
+        return skip(rt, others);
+    };
+    let mut sizes = lines::call_fresh(rt, array, entries, index, number)?;
+    for record in others {
+        sizes = perform(rt, array, entries, index, sizes, Call::from(*record))?;
     }
-    sequence_in(rt, array, entries, index, a, e, n, words, at)
+    Ok(())
 }
 
+// Whether a record begins a sequence.
+fn begins(record: &[u64; 5]) -> bool {
+    matches!(Call::from(*record), Call::Fresh { .. })
+}
+
+// The slices are the same for all sequences, so that a fresh store is made in what the one before left.
 fn run(
     rt: &impl Print,
     array: &mut [u64],
     entries: &mut [u64],
     index: &mut [Word],
-    words: &[u64],
+    records: &[[u64; 5]],
 ) -> io::Result<()> {
-    let mut at = 0usize;
-    while calls::FIELDS <= words.len() - at {
-        at = sequence_at(rt, array, entries, index, words, at)?;
+    for calls in records.chunk_by(|_, next| !begins(next)) {
+        sequence(rt, array, entries, index, calls)?;
     }
     Ok(())
 }
 
-// The slices are the same for all sequences, so that a fresh store is made in what the one before left. Input that ends within a record is
-// told.
+// Input that ends within a record is told.
 fn main(rt: HostRuntime) -> io::Result<()> {
-    let mut words = console::word_room();
+    let mut words: [u64; console::ROOM] = lent::room();
     let count = console::read_input(&rt, &mut words)?;
-    let mut array = console::word_room();
-    let mut entries = console::word_room();
-    let mut index = console::index_room();
-    run(&rt, &mut array, &mut entries, &mut index, &words[0..count])?;
-    if count % calls::FIELDS != 0 {
-        console::cut(&rt, &words)?;
+    let (records, rest) = words[..count].as_chunks::<5>();
+    let mut array: [u64; console::ROOM] = lent::room();
+    let mut entries: [u64; console::ROOM] = lent::room();
+    let mut index: [Word; console::ROOM] = lent::room();
+    run(&rt, &mut array, &mut entries, &mut index, records)?;
+    if !rest.is_empty() {
+        console::cut(&rt, rest)?;
     }
     Ok(())
 }

@@ -13,24 +13,24 @@ use Rattle.value.specs.declared.Words.{Words}
 use Rattle.value.specs.Same.{same, nil}
 use Rattle.value.proofs.Cases.{caseb, clash, and_left, and_right, or_cases}
 use Rattle.value.proofs.Same.{same-eq, eq-same, ne_same}
-use Rattle.key.specs.declared.ArrayIndex.TheVariants.{At}
 use Rattle.key.specs.Canonical.{integer, largest, array_index}
 use Rattle.model.specs.Entries.{Entry, entry, keys_of, has, find, put, distinct}
 use Rattle.model.specs.Table.{Table, offset, within, place_of, array_pairs, pairs, lookup}
 use Rattle.model.specs.Calls.{write_array, write_entry, append}
 use Rattle.model.proofs.Entries.{has-append, find-append-has, find-append-not, put-append-has, put-append-not, keys-append, distinct_append, find_absent}
+use Rattle.std.specs.Prelude.{Some}
 
 -- ---- keys with an index below A
-pub index-integer : (i : ℕ) → i < largest → array_index (integer (suc i)) ≡ At i
+pub index-integer : (i : ℕ) → i < largest → array_index (integer (suc i)) ≡ Some i
 unfolding array_index
-index-integer i h = rw (lt-ltb 0 (suc i) (omega arith), le-leb (suc i) largest h) (ap At (omega arith))
+index-integer i h = rw (lt-ltb 0 (suc i) (omega arith), le-leb (suc i) largest h) (ap Some (omega arith))
 
 -- such a key is the Integer of a place
 pub record Inside (A : ℕ) (k : Words) : Type 0 where
   pub i : ℕ
   pub i< : i < A
   pub is : k ≡ integer (suc i)
-  pub index : array_index k ≡ At i
+  pub index : array_index k ≡ Some i
   pub small : i < largest
 
 pub inside : (A : ℕ) (k : Words) → within A k ≡ true → Inside A k
@@ -133,7 +133,7 @@ key-of-pairs P t l f g k h =
       | inr e ↦ g k e
     ]
 
-pub lookup-array : (t : Table) (k : Words) (i : ℕ) → array_index k ≡ At i → i < length t.array → lookup t k ≡ get_or t.array i nil
+pub lookup-array : (t : Table) (k : Words) (i : ℕ) → array_index k ≡ Some i → i < length t.array → lookup t k ≡ get_or t.array i nil
 unfolding lookup within
 lookup-array t k i p h = rw (p, lt-ltb i (length t.array) h)
 

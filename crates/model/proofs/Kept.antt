@@ -13,8 +13,7 @@ use Rattle.value.specs.declared.Words.{Words}
 use Rattle.value.specs.Encoding.{decodes, Decodes}
 use Rattle.value.specs.Same.{same, nil, is_nil}
 use Rattle.value.proofs.Cases.{caseb, and_right, never}
-use Rattle.key.specs.declared.CanonicalKey.TheVariants.{Key}
-use Rattle.key.specs.Refusals.{key_is_nil}
+use Rattle.value.specs.Refusals.{key_is_nil, refusal_number}
 use Rattle.key.specs.Canonical.{integer, canonical_key}
 use Rattle.key.proofs.Own.{by_key, canonical-own, integer-decodes, canonical-decodes}
 use Rattle.model.specs.Entries.{Entry, entry, keys_of, has, find, keep, live, Each, found, not_found}
@@ -25,6 +24,7 @@ use Rattle.model.specs.WellFormed.{Fair, ZeroOrPower, WellFormed, DecodesBoth, C
 use Rattle.model.proofs.Entries.{put-keys, length-put, keys-append, length-keep, distinct_snoc, distinct-keep, each_append, each_keep, each-put, each_set, each-tabulate, each_first, each_from}
 use Rattle.model.proofs.Map.{by-set, rehashed-length, absent-still, set-sets}
 use Rattle.model.proofs.Size.{size-le, size-power}
+use Rattle.std.specs.Prelude.{Ok}
 
 pub nil-decodes : Decodes nil
 unfolding decodes
@@ -77,7 +77,7 @@ module _ (room : Room) (t : Table) (k v : Words) (w : WellFormed room t) (dv : D
         apart = rw (put-keys t.entries k v) w.apart;
       }
 
-  append-kept : (M : ℕ) → Decodes k → canonical_key k ≡ Key k → within (length t.array) k ≡ false → has t.entries k ≡ false → length t.entries < M → M ≤ room.entry_room → WellFormed room (append t k v M)
+  append-kept : (M : ℕ) → Decodes k → canonical_key k ≡ Ok k → within (length t.array) k ≡ false → has t.entries k ≡ false → length t.entries < M → M ≤ room.entry_room → WellFormed room (append t k v M)
   append-kept M dk c b n h g =
       record {
         fair = w.fair;
@@ -147,7 +147,7 @@ allowance-enough e L M h g f =
     (λ b. let x : M ≤ 2 * L = leb-true M (2 * L) b in rw b (omega arith, omega arith))
     (λ b. let x : 2 * L < M = leb-false M (2 * L) b in rw b (omega arith, omega arith))
 
-place_in-kept : (room : Room) (t r : Table) (k v : Words) → WellFormed room t → WellFormed room r → Decodes k → Decodes v → canonical_key k ≡ Key k → has r.entries k ≡ false → WellFormed room (place_in room.entry_room t r k v).table
+place_in-kept : (room : Room) (t r : Table) (k v : Words) → WellFormed room t → WellFormed room r → Decodes k → Decodes v → canonical_key k ≡ Ok k → has r.entries k ≡ false → WellFormed room (place_in room.entry_room t r k v).table
 unfolding place_in
 place_in-kept room t r k v wt wr dk dv c n =
     let e : ℕ = room.entry_room in
@@ -160,7 +160,7 @@ place_in-kept room t r k v wt wr dk dv c n =
     rw d (append-kept room r k v wr dv (grown_allowance e L r.allowance) dk c b n en.0 en.1))))
 
 -- ---- the calls
-pub set_key-kept : (room : Room) (t : Table) (k v : Words) → WellFormed room t → Decodes k → Decodes v → canonical_key k ≡ Key k → WellFormed room (set_key room t k v).table
+pub set_key-kept : (room : Room) (t : Table) (k v : Words) → WellFormed room t → Decodes k → Decodes v → canonical_key k ≡ Ok k → WellFormed room (set_key room t k v).table
 unfolding set_key grow optimal_size
 set_key-kept room t k v w dk dv c =
     caseb (within (length t.array) k)
@@ -227,7 +227,7 @@ unfolding next_of
 next-each P t key k v a h =
     by_key key
     (λ j e. each_from P k v (pairs t) j a (rw e at h))
-    (λ n e. caseb (eqb n key_is_nil)
+    (λ r e. caseb (eqb (refusal_number r) key_is_nil)
     (λ b. each_first P k v (pairs t) a (rw (e, b) at h))
     (λ b. let q : not_found ≡ found k v = rw (e, b) at h in never (cc)))
 

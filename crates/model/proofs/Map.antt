@@ -13,8 +13,7 @@ use Rattle.value.specs.Encoding.{decodes, Decodes}
 use Rattle.value.specs.Same.{same, nil, is_nil}
 use Rattle.value.proofs.Cases.{caseb, and_left, and_right}
 use Rattle.value.proofs.Same.{same-eq, not_live}
-use Rattle.key.specs.Refusals.{no_room, no_value}
-use Rattle.key.specs.declared.CanonicalKey.TheVariants.{Key, No}
+use Rattle.value.specs.Refusals.{no_room, no_value, refusal_number}
 use Rattle.key.specs.Canonical.{integer, largest, canonical_key}
 use Rattle.key.proofs.Own.{by_key}
 use Rattle.model.specs.Entries.{Entry, keys_of, distinct, has, find, keep, live}
@@ -25,6 +24,8 @@ use Rattle.model.specs.WellFormed.{WellFormed}
 use Rattle.model.proofs.Entries.{updated, find-put, find-snoc, has-keep, find-keep, length-tabulate, get_d_tabulate}
 use Rattle.model.proofs.Size.{size-le}
 use Rattle.model.proofs.Array.{Inside, inside, within_more, has-pairs, lookup-within, lookup-array, lookup-outside, lookup_absent, find-pairs, pairs-write_array, pairs-write_entry, pairs-append}
+use Rattle.std.specs.Prelude.{Ok, Err}
+use Rattle.value.specs.declared.refusal.Refusal.{Refusal}
 
 -- ---- set of words that are no value's, by the canonical key, or by the refusal
 pub set-no-value : (room : Room) (t : Table) (key v : Words) → are_values key v ≡ false → set_of room t key v ≡ refuse no_value t
@@ -32,23 +33,23 @@ unfolding set_of
 set-no-value room t key v d = rw d
 
 module _ (room : Room) (t : Table) (key v : Words) (d : are_values key v ≡ true) where
-  pub set_key_lem : (k : Words) → canonical_key key ≡ Key k → set_of room t key v ≡ set_key room t k v
+  pub set_key_lem : (k : Words) → canonical_key key ≡ Ok k → set_of room t key v ≡ set_key room t k v
   unfolding set_of
   set_key_lem k e = rw (d, e)
 
-  pub set-no-key : (n : ℕ) → canonical_key key ≡ No n → set_of room t key v ≡ refuse n t
+  pub set-no-key : (r : Refusal) → canonical_key key ≡ Err r → set_of room t key v ≡ refuse (refusal_number r) t
   unfolding set_of
-  set-no-key n e = rw (d, e)
+  set-no-key r e = rw (d, e)
 
 -- what is not refused outright goes by the canonical key of a value
 pub by-set : {P : Type 0} (room : Room) (t : Table) (key v : Words)
-    → ((k : Words) → Decodes key → Decodes v → canonical_key key ≡ Key k → set_of room t key v ≡ set_key room t k v → P)
+    → ((k : Words) → Decodes key → Decodes v → canonical_key key ≡ Ok k → set_of room t key v ≡ set_key room t k v → P)
     → ((n : ℕ) → set_of room t key v ≡ refuse n t → P) → P
 by-set room t key v f g =
     caseb (are_values key v)
     (λ d. by_key key
     (λ k e. f k (and_left (decodes key) (decodes v) d) (and_right (decodes key) (decodes v) d) e (set_key_lem room t key v d k e))
-    (λ n e. g n (set-no-key room t key v d n e)))
+    (λ r e. g (refusal_number r) (set-no-key room t key v d r e)))
     (λ d. g no_value (set-no-value room t key v d))
 
 -- ---- the three writes

@@ -7,8 +7,7 @@ use Prim.Native.Nat.{ℕ}
 use Rattle.value.specs.declared.Words.{Words}
 use Rattle.value.specs.Same.{nil}
 use Rattle.value.proofs.Same.{same_refl}
-use Rattle.key.specs.declared.CanonicalKey.TheVariants.{Key, No}
-use Rattle.key.specs.Refusals.{no_room}
+use Rattle.value.specs.Refusals.{no_room}
 use Rattle.key.specs.Canonical.{canonical_key}
 use Rattle.key.proofs.Own.{by_key}
 use Rattle.model.specs.Table.{Room, Table, lookup, get_of}
@@ -17,9 +16,11 @@ use Rattle.model.specs.WellFormed.{WellFormed}
 use Rattle.model.specs.Means.{Means}
 use Rattle.model.proofs.Map.{set_key_lem, Sets, set-sets, reserve-lookup}
 use Rattle.model.proofs.Next.{get_key}
+use Rattle.std.specs.Prelude.{Ok, Err}
+use Rattle.value.specs.declared.refusal.Refusal.{Refusal}
 
 -- a set of a key is done, and means this, or is refused for want of room
-pub set-means : (room : Room) (t : Table) (key k v : Words) → WellFormed room t → are_values key v ≡ true → canonical_key key ≡ Key k
+pub set-means : (room : Room) (t : Table) (key k v : Words) → WellFormed room t → are_values key v ≡ true → canonical_key key ≡ Ok k
     → (((set_of room t key v).refusal ≡ 0) × Means t key k v (set_of room t key v)) ⊎ (set_of room t key v ≡ refuse no_room t)
 set-means room t key k v w d c = rw (set_key_lem room t key v d k c) (go (set-sets room t k v w))
   where
@@ -36,9 +37,9 @@ set-means room t key k v w d c = rw (set_key_lem room t key v d k c) (go (set-se
     )
 
 -- a key that is none has no value
-pub get-no-key : (t : Table) (key : Words) (n : ℕ) → canonical_key key ≡ No n → get_of t key ≡ nil
+pub get-no-key : (t : Table) (key : Words) (r : Refusal) → canonical_key key ≡ Err r → get_of t key ≡ nil
 unfolding get_of
-get-no-key t key n e = rw e
+get-no-key t key r e = rw e
 
 -- reserve, done or refused, changes no value
 pub reserve-means : (room : Room) (t : Table) (n : ℕ) (key : Words) → WellFormed room t → get_of (reserve_of room t n).table key ≡ get_of t key

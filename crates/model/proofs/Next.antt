@@ -10,7 +10,6 @@ use Rattle.value.specs.declared.Words.{Words}
 use Rattle.value.specs.Same.{same, nil, is_nil}
 use Rattle.value.proofs.Cases.{caseb, clash, or_right, never}
 use Rattle.value.proofs.Same.{same-eq, same_refl, ne_same, not_live}
-use Rattle.key.specs.declared.CanonicalKey.TheVariants.{Key}
 use Rattle.key.specs.Canonical.{integer, canonical_key}
 use Rattle.key.proofs.Own.{canonical-integer}
 use Rattle.model.specs.Entries.{Entry, entry, keys_of, distinct, has, find, keep, live, NextValue, first, from}
@@ -20,13 +19,14 @@ use Rattle.model.specs.Manual.{Lists, end, more, PairsOf}
 use Rattle.model.proofs.Entries.{has-append, has-keep, find-keep, distinct-keep, each-key}
 use Rattle.model.proofs.Array.{is-first, not_first, next_place_lem, key-of-pairs, find-pairs, distinct-pairs}
 use Rattle.model.proofs.Map.{numbered}
+use Rattle.std.specs.Prelude.{Ok}
 
 -- ---- next at Nil, and get at a key
 pub next-nil : (t : Table) → next_of t nil ≡ first (pairs t)
 unfolding next_of canonical_key
 next-nil t = refl
 
-pub get_key : (t : Table) (key k : Words) → canonical_key key ≡ Key k → get_of t key ≡ lookup t k
+pub get_key : (t : Table) (key k : Words) → canonical_key key ≡ Ok k → get_of t key ≡ lookup t k
 unfolding get_of
 get_key t key k c = rw c
 
@@ -34,8 +34,8 @@ get_key t key k c = rw c
 pub pairs-apart : {room : Room} {t : Table} → WellFormed room t → distinct (keys_of (pairs t))
 pairs-apart {t = t} w = distinct-pairs t (numbered w) w.apart (each-key (λ k. within (length t.array) k ≡ false) _ t.entries (λ s o. o) w.outside)
 
-pub pair-canonical : {room : Room} {t : Table} (k : Words) → WellFormed room t → has (pairs t) k ≡ true → canonical_key k ≡ Key k
-pair-canonical {t = t} k w h = key-of-pairs (λ x. canonical_key x ≡ Key x) t (numbered w) canonical-integer (each-key (λ x. canonical_key x ≡ Key x) _ t.entries (λ s c. c) w.canonical) k h
+pub pair-canonical : {room : Room} {t : Table} (k : Words) → WellFormed room t → has (pairs t) k ≡ true → canonical_key k ≡ Ok k
+pair-canonical {t = t} k w h = key-of-pairs (λ x. canonical_key x ≡ Ok x) t (numbered w) canonical-integer (each-key (λ x. canonical_key x ≡ Ok x) _ t.entries (λ s c. c) w.canonical) k h
 
 -- ---- a list walked from its start
 pub has-middle : (pre : List Entry) (s : Entry) (post : List Entry) → has (pre ++ (s ∷ post)) s.key ≡ true

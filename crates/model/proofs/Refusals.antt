@@ -12,8 +12,7 @@ use borrow.Author.Tests.{leb-true, leb-false, ltb-true, ltb-false, le-ltb, lt-lt
 use Rattle.value.specs.declared.Words.{Words}
 use Rattle.value.specs.Same.{nil, is_nil}
 use Rattle.value.proofs.Cases.{caseb}
-use Rattle.key.specs.Refusals.{key_is_nil, key_is_nan, no_room}
-use Rattle.key.specs.declared.CanonicalKey.TheVariants.{Key}
+use Rattle.value.specs.Refusals.{key_is_nil, key_is_nan, no_room, refusal_number}
 use Rattle.key.specs.Canonical.{canonical_key}
 use Rattle.key.proofs.Own.{by_key, no_key, nil-no-key, nan-no-key}
 use Rattle.model.specs.Entries.{has, keep, live}
@@ -23,6 +22,9 @@ use Rattle.model.specs.Calls.{Outcome, done, refuse, place_in, grow, set_key, ar
 use Rattle.model.specs.WellFormed.{WellFormed}
 use Rattle.model.specs.Refused.{Full, Refused, not_values, nil_key, nan_key, full, NoSpace}
 use Rattle.model.proofs.Map.{set-no-value, set_key_lem, set-no-key, by-set, Sets, set-sets}
+use Rattle.std.specs.Prelude.{Ok}
+use Rattle.value.specs.declared.refusal.Refusal.{Refusal}
+use Rattle.value.specs.declared.refusal.Refusal.TheVariants.{KeyIsNil, KeyIsNan}
 
 pub zero-three : {X : Type 0} → ◌≡◌ {A = ℕ} 0 3 → X
 zero-three p = absurd (differ p)
@@ -64,22 +66,22 @@ set-refused room t key v w r =
     caseb (are_values key v)
     (λ d. by_key key
     (λ k e. let q : set_of room t key v ≡ set_key room t k v = set_key_lem room t key v d k e in rw q (by-room d k e (rw q at r) (set-sets room t k v w)))
-    (λ n e. rw (set-no-key room t key v d n e) (by_kind d n (no_key key n e))))
+    (λ r e. rw (set-no-key room t key v d r e) (by_kind d r (no_key key r e))))
     (λ d. rw (set-no-value room t key v d) (not_values d))
   where
-    by-room : are_values key v ≡ true → (k : Words) → canonical_key key ≡ Key k → ((set_key room t k v).refusal ≡ 0 → ⊥) → Sets (lookup t) k v (set_key room t k v) ⊎ (set_key room t k v ≡ refuse no_room t)
+    by-room : are_values key v ≡ true → (k : Words) → canonical_key key ≡ Ok k → ((set_key room t k v).refusal ≡ 0 → ⊥) → Sets (lookup t) k v (set_key room t k v) ⊎ (set_key room t k v ≡ refuse no_room t)
         → Refused room t key v (set_key room t k v).refusal
     by-room d k e r (inl m) = absurd (r m.ok)
     by-room d k e r (inr p) = rw p (full d k e (refused_full room t k v (ap (λ (o : Outcome). o.refusal) p)))
 
-    by_kind : are_values key v ≡ true → (n : ℕ) → ((key.kind ≡ 0) × (n ≡ key_is_nil)) ⊎ ((key.kind ≡ 3) × (nan_bits binary64 key.payload ≡ true) × (n ≡ key_is_nan)) → Refused room t key v n
-    by_kind d n (inl a) = rw a.1 (nil_key d a.0)
-    by_kind d n (inr a) = rw a.2 (nan_key d a.0 a.1)
+    by_kind : are_values key v ≡ true → (r : Refusal) → ((key.kind ≡ 0) × (r ≡ KeyIsNil)) ⊎ ((key.kind ≡ 3) × (nan_bits binary64 key.payload ≡ true) × (r ≡ KeyIsNan)) → Refused room t key v (refusal_number r)
+    by_kind d r (inl a) = rw a.1 (nil_key d a.0)
+    by_kind d r (inr a) = rw a.2 (nan_key d a.0 a.1)
 
 pub refused-set : (room : Room) (t : Table) (key v : Words) {n : ℕ} → Refused room t key v n → (set_of room t key v).refusal ≡ n
 refused-set room t key v (not_values d) = ap (λ (o : Outcome). o.refusal) (set-no-value room t key v d)
-refused-set room t key v (nil_key d h) = ap (λ (o : Outcome). o.refusal) (set-no-key room t key v d key_is_nil (nil-no-key key h))
-refused-set room t key v (nan_key d h n) = ap (λ (o : Outcome). o.refusal) (set-no-key room t key v d key_is_nan (nan-no-key key h n))
+refused-set room t key v (nil_key d h) = ap (λ (o : Outcome). o.refusal) (set-no-key room t key v d KeyIsNil (nil-no-key key h))
+refused-set room t key v (nan_key d h n) = ap (λ (o : Outcome). o.refusal) (set-no-key room t key v d KeyIsNan (nan-no-key key h n))
 refused-set room t key v (full d k e f) = ap (λ (o : Outcome). o.refusal) (set_key_lem room t key v d k e) ∙ full-refused room t k v f
 
 -- what a refused set leaves is the table as it was

@@ -4,7 +4,7 @@ use Rattle.std.specs.Prelude.{Bool, cond, ◌&&◌, [], ◌∷◌, ◌++◌, ℕ
 use Rattle.value.specs.declared.Words.{Words}
 use Rattle.value.specs.Encoding.{decodes}
 use Rattle.value.specs.Same.{nil, is_nil}
-use Rattle.key.specs.Refusals.{no_room, no_value}
+use Rattle.value.specs.Refusals.{no_room, no_value}
 use Rattle.key.specs.Canonical.{canonical_key, on_key}
 use Rattle.model.specs.Entries.{entry, has, find, put, keep, live}
 use Rattle.model.specs.Table.{Room, Table, within, place_of}

@@ -1,18 +1,16 @@
 -- Growth (01, 'Growth', steps 1 to 4): the candidates and their classes, the size S, what is dropped and moved, and the allowance M.
 -- Assumes nothing.
-use Rattle.std.specs.Prelude.{Bool, cond, ◌&&◌, not, List, [], ◌∷◌, ℕ, zero, suc, ◌+◌, ◌*◌, ◌/◌, ◌^◌, ◌≤◌, ◌<◌, min, max, eqb, leb, ltb, length}
+use Rattle.std.specs.Prelude.{Bool, cond, ◌&&◌, not, List, [], ◌∷◌, ℕ, zero, suc, ◌+◌, ◌*◌, ◌/◌, ◌^◌, ◌≤◌, ◌<◌, min, max, eqb, leb, ltb, length, Option, Some, None}
 use Rattle.std.specs.Float.Ieee.{size}
 use Rattle.value.specs.declared.Words.{Words}
-use Rattle.key.specs.declared.ArrayIndex.{ArrayIndex}
-use Rattle.key.specs.declared.ArrayIndex.TheVariants.{At, Nothing}
 use Rattle.key.specs.Canonical.{integer, array_index}
 use Rattle.model.specs.Entries.{Entry, keep, live}
 use Rattle.model.specs.Table.{Room, Table, within, pairs, lookup}
 
 -- step 1: the candidates are the array indices of the pairs with a value, and the new key's
-abbrev pub with_index : ArrayIndex → List ℕ → List ℕ
-with_index (At i) l = i ∷ l
-with_index Nothing l = l
+abbrev pub with_index : Option ℕ → List ℕ → List ℕ
+with_index (Some i) l = i ∷ l
+with_index None l = l
 
 abbrev pub indices : List Entry → List ℕ
 indices [] = []

@@ -1,10 +1,9 @@
 -- Why a set or a reserve is refused (01, 'Refusal numbers' and 'Growth', step 5). Assumes nothing.
-use Rattle.std.specs.Prelude.{◌≡◌, true, false, ℕ, ◌+◌, ◌-◌, ◌≤◌, ◌<◌, length}
+use Rattle.std.specs.Prelude.{◌≡◌, true, false, ℕ, ◌+◌, ◌-◌, ◌≤◌, ◌<◌, length, Ok}
 use Rattle.std.specs.Float.{binary64}
 use Rattle.std.specs.Float.Ieee.{nan_bits}
 use Rattle.value.specs.declared.Words.{Words}
-use Rattle.key.specs.declared.CanonicalKey.TheVariants.{Key}
-use Rattle.key.specs.Refusals.{key_is_nil, key_is_nan, no_room, no_value}
+use Rattle.value.specs.Refusals.{key_is_nil, key_is_nan, no_room, no_value}
 use Rattle.key.specs.Canonical.{canonical_key}
 use Rattle.model.specs.Entries.{keep, live}
 use Rattle.model.specs.Table.{Room, Table, within}
@@ -23,7 +22,7 @@ pub data Refused (room : Room) (t : Table) (key v : Words) : ℕ → Type 0 wher
   not_values : are_values key v ≡ false → Refused room t key v no_value
   nil_key : are_values key v ≡ true → key.kind ≡ 0 → Refused room t key v key_is_nil
   nan_key : are_values key v ≡ true → key.kind ≡ 3 → nan_bits binary64 key.payload ≡ true → Refused room t key v key_is_nan
-  full : are_values key v ≡ true → (k : Words) → canonical_key key ≡ Key k → Full room t k v → Refused room t key v no_room
+  full : are_values key v ≡ true → (k : Words) → canonical_key key ≡ Ok k → Full room t k v → Refused room t key v no_room
 
 -- why a reserve of n entries is refused
 pub record NoSpace (room : Room) (t : Table) (n : ℕ) : Type 0 where

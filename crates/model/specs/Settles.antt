@@ -1,9 +1,8 @@
 -- The rule that settles it: an entry once made keeps its place until a new key finds no place or room is reserved; only then are cleared
 -- entries dropped. Assumes nothing.
-use Rattle.std.specs.Prelude.{◌≡◌, true, false, ℕ, ◌-◌, ◌≤◌, ◌<◌, length, get_or}
+use Rattle.std.specs.Prelude.{◌≡◌, true, false, ℕ, ◌-◌, ◌≤◌, ◌<◌, length, get_or, Ok}
 use Rattle.value.specs.declared.Words.{Words}
 use Rattle.value.specs.Same.{nil, is_nil}
-use Rattle.key.specs.declared.CanonicalKey.TheVariants.{Key}
 use Rattle.key.specs.Canonical.{canonical_key}
 use Rattle.model.specs.Entries.{keys_of, has, live, Each}
 use Rattle.model.specs.Table.{Table, within}
@@ -28,7 +27,7 @@ pub record FindsNoPlace (t : Table) (k v : Words) : Type 0 where
 
 -- the two causes: a set whose key finds no place, and a reserve for which there is not room enough
 abbrev pub SetGrows : Table → Words → Words → Type 0
-SetGrows t key v = (are_values key v ≡ true) × ((k : Words) × (canonical_key key ≡ Key k) × FindsNoPlace t k v)
+SetGrows t key v = (are_values key v ≡ true) × ((k : Words) × (canonical_key key ≡ Ok k) × FindsNoPlace t k v)
 
 abbrev pub ReserveGrows : Table → ℕ → Type 0
 ReserveGrows t n = t.allowance - length t.entries < n

@@ -1,11 +1,9 @@
 -- The table as a value: an array part, entries in order, and an allowance (01, 'The store' and 'Calls': get and next).
 -- Room and limits are parameters. Assumes nothing.
-use Rattle.std.specs.Prelude.{Bool, false, cond, List, [], ◌∷◌, ◌++◌, ℕ, suc, eqb, ltb, length, get_or}
+use Rattle.std.specs.Prelude.{Bool, false, cond, List, [], ◌∷◌, ◌++◌, ℕ, suc, eqb, ltb, length, get_or, Option, Some, None}
 use Rattle.value.specs.declared.Words.{Words}
 use Rattle.value.specs.Same.{nil}
-use Rattle.key.specs.declared.ArrayIndex.{ArrayIndex}
-use Rattle.key.specs.declared.ArrayIndex.TheVariants.{At, Nothing}
-use Rattle.key.specs.Refusals.{key_is_nil}
+use Rattle.value.specs.Refusals.{key_is_nil}
 use Rattle.key.specs.Canonical.{integer, canonical_key, on_key, array_index}
 use Rattle.model.specs.Entries.{Entry, entry, find, NextValue, not_found, first, from}
 
@@ -23,13 +21,13 @@ pub record Table : Type 0 where
 abbrev pub fresh : Table
 fresh = record { array = []; entries = []; allowance = 0 }
 
-abbrev pub below : ℕ → ArrayIndex → Bool
-below A (At i) = ltb i A
-below A Nothing = false
+abbrev pub below : ℕ → Option ℕ → Bool
+below A (Some i) = ltb i A
+below A None = false
 
-abbrev pub offset : ArrayIndex → ℕ
-offset (At i) = i
-offset Nothing = 0
+abbrev pub offset : Option ℕ → ℕ
+offset (Some i) = i
+offset None = 0
 
 -- whether a key has an array index below A, and that place
 unfoldable pub within : ℕ → Words → Bool

@@ -1,7 +1,6 @@
 -- A well-formed table of a room: 01's sound store without its words, clause by clause in the order of a fault finder. Assumes nothing.
-use Rattle.std.specs.Prelude.{◌≡◌, false, ◌⊎◌, ℕ, ◌^◌, ◌≤◌, ◌<◌, length}
+use Rattle.std.specs.Prelude.{◌≡◌, false, ◌⊎◌, ℕ, ◌^◌, ◌≤◌, ◌<◌, length, Ok}
 use Rattle.value.specs.Encoding.{Decodes}
-use Rattle.key.specs.declared.CanonicalKey.TheVariants.{Key}
 use Rattle.key.specs.Canonical.{canonical_key}
 use Rattle.model.specs.Entries.{Entry, keys_of, distinct, Each}
 use Rattle.model.specs.Table.{Room, Table, within}
@@ -22,7 +21,7 @@ abbrev pub DecodesBoth : Entry → Type 0
 DecodesBoth s = Decodes s.key × Decodes s.value
 
 abbrev pub Canonical : Entry → Type 0
-Canonical s = canonical_key s.key ≡ Key s.key
+Canonical s = canonical_key s.key ≡ Ok s.key
 
 abbrev pub Outside : ℕ → Entry → Type 0
 Outside A s = within A s.key ≡ false

@@ -8,8 +8,7 @@ use Prim.Native.Nat.{ℕ}
 use Rattle.value.specs.declared.Words.{Words}
 use Rattle.value.specs.Encoding.{Decodes}
 use Rattle.value.specs.Same.{same, nil}
-use Rattle.key.specs.declared.CanonicalKey.TheVariants.{Key}
-use Rattle.key.specs.Refusals.{no_room}
+use Rattle.value.specs.Refusals.{no_room}
 use Rattle.key.specs.Canonical.{canonical_key}
 use Rattle.key.proofs.Own.{by_key, canonical-own}
 use Rattle.model.specs.Entries.{keep, live, Each}
@@ -31,6 +30,7 @@ use Rattle.original.proofs.Right.{with_entries, right-fresh, right-shuffled, shu
 use Rattle.original.proofs.Sets.{StandsFor, carried, OriginalSets, original-sets, original-refuses, reserve-is, original-get}
 use Rattle.original.proofs.Walks.{original-lists, same-pairs}
 use Rattle.original.proofs.Lengths.{same_length}
+use Rattle.std.specs.Prelude.{Ok}
 
 abbrev said : OriginalOutcome → Answer
 said a = was a.refusal a.previous
@@ -95,7 +95,7 @@ module _ (addresses : Addresses) (room : Room) where
       both : are_values key v ≡ true
       both = rw dk dv
 
-      keyed : (k : Words) → canonical_key key ≡ Key k
+      keyed : (k : Words) → canonical_key key ≡ Ok k
           → (told (set_of room t key v) ≡ said (original_set addresses c r key v)) × Together (set_of room t key v).table (original_set addresses c r key v).now
       keyed k e = elim (set-sets room t k v g.here) [
         | inl m ↦

@@ -9,7 +9,6 @@ use lib.ListN.{length, length-set}
 use borrow.Author.Tests.{not-true}
 use Rattle.value.specs.declared.Words.{Words}
 use Rattle.value.proofs.Cases.{and_right}
-use Rattle.key.specs.declared.CanonicalKey.TheVariants.{Key}
 use Rattle.key.specs.Canonical.{largest, canonical_key}
 use Rattle.model.specs.Entries.{Entry, entry, keys_of, distinct, has, keep, live, Each}
 use Rattle.model.specs.Table.{Table, fresh, within, place_of, lookup}
@@ -19,10 +18,11 @@ use Rattle.model.proofs.Entries.{put-keys, keys-append, distinct_snoc, distinct-
 use Rattle.model.proofs.Map.{rehashed-length}
 use Rattle.original.specs.Runs.{Shuffled}
 use Rattle.original.proofs.Order.{shuffled-each, shuffled-apart, shuffled-find}
+use Rattle.std.specs.Prelude.{Ok}
 
 -- a key that the map may have beside an array of A values
 pub record Placed (A : ℕ) (k : Words) : Type 0 where
-  pub canonical : canonical_key k ≡ Key k
+  pub canonical : canonical_key k ≡ Ok k
   pub outside : within A k ≡ false
 
 abbrev pub PlacedEntry : ℕ → Entry → Type 0

@@ -12,7 +12,6 @@ use Rattle.value.specs.declared.Words.{Words}
 use Rattle.value.specs.Same.{same, nil, is_nil}
 use Rattle.value.proofs.Cases.{caseb, clash}
 use Rattle.value.proofs.Same.{same-eq, same_refl}
-use Rattle.key.specs.declared.CanonicalKey.TheVariants.{Key, No}
 use Rattle.key.specs.Canonical.{integer, largest, canonical_key}
 use Rattle.key.proofs.Own.{by_key}
 use Rattle.key.proofs.Original.{original-key, original-index}
@@ -26,6 +25,9 @@ use Rattle.model.proofs.Map.{write_array-lookup, write_entry-lookup, append-look
 use Rattle.original.specs.Original.{Cell, Original, Addresses, find_cell, has_value, map_index, Choice, OriginalOutcome, original_outcome, with_array, with_map, set_reserved, grown_value_at, resized, grown, original_get, original_set, original_reserve}
 use Rattle.original.proofs.Cells.{cell_of, cells_of, original_of, has_cell-of, find_cell-of, cleared-cells, written-cells, keep-cells}
 use Rattle.original.proofs.Right.{Placed, PlacedEntry, Right, with_entries, there, right-numbered, right-array, right-write, right-append, right-purged, right-rehashed}
+use Rattle.std.specs.Prelude.{Ok, Err}
+use Rattle.value.specs.declared.refusal.Refusal.{Refusal}
+use Rattle.value.specs.Refusals.{refusal_number}
 
 module _ (addresses : Addresses) where
   -- a table of the original's that stands for one of ours, with the map m
@@ -143,7 +145,7 @@ module _ (addresses : Addresses) where
   moved : (m n : Words → Words) (k v : Words) (a : OriginalOutcome) → ((j : Words) → n j ≡ m j) → OriginalSets n k v a → OriginalSets m k v a
   moved m n k v a g s = record { ok = s.ok; previously = s.previously ∙ g k; now = carried (λ j. ap (λ (x : Words). cond (same k j) v x) (g j)) s.now }
 
-  pub original-sets : (c : Choice) (t : Table) (key k v : Words) → Right t → canonical_key key ≡ Key k → canonical_key k ≡ Key k
+  pub original-sets : (c : Choice) (t : Table) (key k v : Words) → Right t → canonical_key key ≡ Ok k → canonical_key k ≡ Ok k
       → OriginalSets (lookup t) k v (original_set addresses c (original_of addresses t) key v)
   unfolding original_set within
   original-sets c t key k v s e own =
@@ -167,9 +169,9 @@ module _ (addresses : Addresses) where
       either true p q = p
       either false p q = q
 
-  pub original-refuses : (c : Choice) (r : Original) (key v : Words) (n : ℕ) → canonical_key key ≡ No n → original_set addresses c r key v ≡ original_outcome n nil r
+  pub original-refuses : (c : Choice) (r : Original) (key v : Words) (e : Refusal) → canonical_key key ≡ Err e → original_set addresses c r key v ≡ original_outcome (refusal_number e) nil r
   unfolding original_set
-  original-refuses c r key v n e = rw (original-index key, original-key key, e)
+  original-refuses c r key v e q = rw (original-index key, original-key key, q)
 
   -- ---- reserve
   pub reserve-is : (c : Choice) (t : Table) → Right t → StandsFor (lookup t) (original_reserve c (original_of addresses t))

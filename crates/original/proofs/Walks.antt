@@ -10,7 +10,6 @@ use lib.ListN.{length, drop}
 use Rattle.value.specs.declared.Words.{Words}
 use Rattle.value.specs.Same.{nil, is_nil}
 use Rattle.value.proofs.Cases.{caseb, never}
-use Rattle.key.specs.declared.CanonicalKey.TheVariants.{Key}
 use Rattle.key.specs.Canonical.{integer, canonical_key}
 use Rattle.key.proofs.Own.{canonical-integer}
 use Rattle.key.proofs.Original.{original-key, original-index}
@@ -23,8 +22,9 @@ use Rattle.original.specs.Original.{Addresses, first_cell, from_cell, first_pair
 use Rattle.original.specs.Agreement.{SamePairs}
 use Rattle.original.proofs.Cells.{cells_of, original_of, matches-cell}
 use Rattle.original.proofs.Right.{Right, there, right-numbered}
+use Rattle.std.specs.Prelude.{Ok}
 
-not-nil : (k : Words) → canonical_key k ≡ Key k → eqb k.kind 0 ≡ false
+not-nil : (k : Words) → canonical_key k ≡ Ok k → eqb k.kind 0 ≡ false
 unfolding canonical_key
 not-nil k c = caseb (eqb k.kind 0) (λ e. let q = rw e at c in never (cc)) (λ e. e)
 
@@ -47,7 +47,7 @@ module _ (addresses : Addresses) where
   unfolding original_next canonical_key pairs
   original-first t = rw (original-index nil) (first_pair-of (array_pairs 0 t.array) t.entries)
 
-  original-from : (t : Table) (k : Words) → Right t → canonical_key k ≡ Key k → original_next addresses (original_of addresses t) k ≡ from (pairs t) k
+  original-from : (t : Table) (k : Words) → Right t → canonical_key k ≡ Ok k → original_next addresses (original_of addresses t) k ≡ from (pairs t) k
   unfolding original_next pairs within
   original-from t k s c =
       rw (original-index k, original-key k, c)
@@ -67,8 +67,8 @@ module _ (addresses : Addresses) where
       once : distinct (keys_of (pairs t))
       once = distinct-pairs t (right-numbered t s) s.apart (λ k h. (there t s k h).outside)
 
-      key : (k : Words) → has (pairs t) k ≡ true → canonical_key k ≡ Key k
-      key = key-of-pairs (λ x. canonical_key x ≡ Key x) t (right-numbered t s) canonical-integer (λ x e. (there t s x e).canonical)
+      key : (k : Words) → has (pairs t) k ≡ true → canonical_key k ≡ Ok k
+      key = key-of-pairs (λ x. canonical_key x ≡ Ok x) t (right-numbered t s) canonical-integer (λ x e. (there t s x e).canonical)
 
 -- ---- two maps with the same values have the same pairs
 pub same-pairs : (m n : Words → Words) (k l : List Entry) → ((j : Words) → m j ≡ n j) → PairsOf m k → PairsOf n l → SamePairs k l

@@ -2,11 +2,9 @@
 -- decide is a free choice at each call: whether the map has room, how long the grown array is, and the order of the map (`Runs`). A panic is no
 -- outcome, so what holds for every choice holds for the original while it does not panic. Where the host's objects stand is a parameter.
 -- Assumes nothing.
-use Rattle.std.specs.Prelude.{◌≡◌, Bool, true, false, cond, ◌&&◌, not, List, [], ◌∷◌, ◌++◌, ℕ, suc, pred, ◌+◌, ◌^◌, ◌≤◌, eqb, leb, ltb, length, get_or, set, drop}
+use Rattle.std.specs.Prelude.{◌≡◌, Bool, true, false, cond, ◌&&◌, not, List, [], ◌∷◌, ◌++◌, ℕ, suc, pred, ◌+◌, ◌^◌, ◌≤◌, eqb, leb, ltb, length, get_or, set, drop, Option, None}
 use Rattle.value.specs.declared.Words.{Words}
 use Rattle.value.specs.Same.{same, nil, is_nil}
-use Rattle.key.specs.declared.ArrayIndex.{ArrayIndex}
-use Rattle.key.specs.declared.ArrayIndex.TheVariants.{Nothing}
 use Rattle.key.specs.Canonical.{integer, on_key}
 use Rattle.key.specs.Original.{original_key, original_index}
 use Rattle.model.specs.Entries.{Entry, keep, NextValue, found, last, not_found}
@@ -51,9 +49,9 @@ revived k (dead a) = alive k
 abbrev pub has_value : Cell → Bool
 has_value c = not (is_nil c.value)
 
-abbrev pub map_index : MapKey → ArrayIndex
+abbrev pub map_index : MapKey → Option ℕ
 map_index (alive k) = original_index k
-map_index (dead a) = Nothing
+map_index (dead a) = None
 
 pub record Choice : Type 0 where
   -- whether `map.len() < map.capacity()`, or for reserve whether nothing need be done

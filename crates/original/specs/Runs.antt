@@ -3,7 +3,7 @@ use Rattle.std.specs.Prelude.{◌≡◌, List, [], ◌∷◌, ℕ}
 use Rattle.value.specs.declared.Words.{Words}
 use Rattle.value.specs.Encoding.{Decodes}
 use Rattle.value.specs.Same.{nil}
-use Rattle.key.specs.Refusals.{no_room}
+use Rattle.value.specs.Refusals.{no_room}
 use Rattle.model.specs.Table.{Room, Table, get_of}
 use Rattle.model.specs.Calls.{Outcome, set_of, reserve_of}
 use Rattle.original.specs.Original.{Cell, Original, Addresses, Choice, with_map, original_get, original_set, original_reserve}

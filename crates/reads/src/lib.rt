@@ -2,189 +2,150 @@
 // nothing; the functions beneath are lent a store of right shape. Of the words nothing is assumed.
 #![tactic(auto)]
 
-ghost use Rattle.std.specs.Prelude.{◌≡◌, ◌++◌, ◌-◌, ◌*◌, ◌^◌, ◌<◌, ◌≤◌, length as len};
+ghost use Rattle.std.specs.Prelude.{◌≡◌, ◌++◌, ◌-◌, ◌*◌, ◌^◌, ◌<◌, ◌≤◌, length as len, MatchResult};
+ghost use Rattle.value.specs.Encoding.{Decodes};
 ghost use Rattle.key.specs.Canonical.{integer, largest};
 ghost use Rattle.model.specs.Entries.{has, first};
 ghost use Rattle.model.specs.Table.{lookup};
 ghost use Rattle.model.specs.Growth.{tabulate};
 ghost use Rattle.model.specs.Length.{nil_at, halve as halved, double as doubled, length_of};
-ghost use Rattle.store.specs.Store.{store_of};
+ghost use Rattle.store.specs.Store.{seen};
 ghost use Rattle.store.specs.Shape.{Shaped};
 ghost use Rattle.store.specs.Written.{Sound, pair_at, entry_at, table_of, entries_in};
 ghost use Rattle.index.specs.Index.{Right};
-ghost use Rattle.reads.specs.Reads.{GetAnswers, in_words, NextKey, NextAnswers, LengthAnswers};
+ghost use Rattle.reads.specs.Reads.{Refuses, RefusesKey, GetAnswers, in_words, NextKey, NextAnswers, LengthAnswers};
 
 use index::{Found, Word};
-use key::CanonicalKey;
-use store::Record;
-use value::Words;
+use lent::Entries;
+use store::View;
+use value::{Refusal, Words};
 
+// The original's NextValue.
 #[derive(Clone, Copy)]
-pub enum GotWords {
-    Value(Words),
-    No(u8),
-}
-
-// The original's NextValue, in words.
-#[derive(Clone, Copy)]
-pub enum NextWords {
-    Found(Words, Words),
+pub enum Next<T> {
+    // a key and its value
+    Found(T, T),
     Last,
     NotFound,
-    No(u8),
 }
 
-#[derive(Clone, Copy)]
-pub enum Measured {
-    Length(u64),
-    No(u8),
-}
-
-const LARGEST: u64 = 0x7fff_ffff_ffff_ffff;
+const LARGEST: u64 = i64::MAX as u64;
 
 // The value under a canonical key.
-fn get_key(array: &[u64], entries: &[u64], index: &[Word], sizes: Record, key: Words) -> Words
-    requires { Shaped (store_of array.now entries.now index.now sizes) }
-    ensures { Sound (store_of array.now entries.now index.now sizes) → result ≡ lookup (table_of (store_of array.now entries.now index.now sizes)) key }
+fn get_key(view: &View, key: Words) -> Words
+    requires { Shaped (seen view.now) }
+    ensures { Sound (seen view.now) → result ≡ lookup (table_of (seen view.now)) key }
 {
-    if store::is_within(key, sizes.size) {
-        return lent::value_at(array, store::place_of(key));
+    if store::is_within(key, view.sizes.size) {
+        return lent::value_at(view.array, store::place_of(key));
     }
-    match index::search(entries, sizes.count, index, key) {
-        Found::At(i) => lent::value_at(entries, 2 * i + 1),
-        Found::Absent(_) => value::nil(),
-        Found::Full => value::nil(),
+    let entries = view.in_use();
+    match index::search(&entries, view.index, key) {
+        Found::At(i) => entries.value(i),
+        Found::Absent(_) => Words::NIL,
+        Found::Full => Words::NIL,
     }
 }
 
-pub fn get_words(
-    array: &[u64],
-    entries: &[u64],
-    index: &[Word],
-    sizes: Record,
-    key: Words,
-) -> GotWords
-    ensures { GetAnswers (store_of array.now entries.now index.now sizes) key result }
+// A call is refused where the shape is wrong.
+fn accept(view: &View) -> Result<(), Refusal>
+    ensures { MatchResult result (λ _. Shaped (seen view.now)) (Refuses (seen view.now)) }
 {
-    if !store::right_shape(array.len(), entries.len(), index.len(), sizes) {
-        return GotWords::No(key::WRONG_SHAPE);
+    if !store::is_shaped(view) {
+        return Err(Refusal::WrongShape);
     }
+    Ok(())
+}
+
+// One with a key, then, where the key's words are no value's.
+fn accept_key(view: &View, key: Words) -> Result<(), Refusal>
+    ensures { MatchResult result (λ _. Shaped (seen view.now) × Decodes key) (RefusesKey (seen view.now) key) }
+{
+    accept(view)?;
     if !lent::decodable(key) {
-        return GotWords::No(key::NO_VALUE);
+        return Err(Refusal::NoValue);
     }
-    let CanonicalKey::Key(k) = key::canonical_key(key) else {
-        return GotWords::Value(value::nil());
+    Ok(())
+}
+
+pub fn get_words(view: &View, key: Words) -> Result<Words, Refusal>
+    ensures { GetAnswers (seen view.now) key result }
+{
+    accept_key(view, key)?;
+    let Ok(k) = key::canonical_key(key) else {
+        return Ok(Words::NIL);
     };
-    GotWords::Value(get_key(array, entries, index, sizes, k))
+    Ok(get_key(view, k))
 }
 
 // The first entry from a position on that has a value.
-fn next_entry(entries: &[u64], count: usize, from: usize) -> NextWords
-    requires { (4 * count ≤ len entries.now) × (from ≤ count) }
-    ensures { result ≡ in_words (first (tabulate (count - from) (entry_at entries.now) from)) }
+fn next_entry(entries: &Entries, from: usize) -> Next<Words>
+    requires { from ≤ entries.now.count }
+    ensures { result ≡ in_words (first (tabulate (entries.now.count - from) (entry_at entries.now.words.now) from)) }
 {
-    let mut i = from;
-    while i < count {
-        let v = lent::value_at(entries, 2 * i + 1);
-        if !value::is_nil(v) {
-            return NextWords::Found(lent::value_at(entries, 2 * i), v);
+    for i in from..entries.count {
+        let v = entries.value(i);
+        if !v.is_nil() {
+            return Next::Found(entries.key(i), v);
         }
-        i += 1;
     }
-    NextWords::Last
+    Next::Last
 }
 
 // The first pair from an array place on that has a value, in the array and then in the entries.
-fn next_pair(array: &[u64], entries: &[u64], sizes: Record, from: usize) -> NextWords
-    requires { (2 * sizes.size ≤ len array.now) × (4 * sizes.count ≤ len entries.now) × (sizes.size < 2 ^ 62) × (from ≤ sizes.size) }
-    ensures { result ≡ in_words (first (tabulate (sizes.size - from) (pair_at array.now) from ++ entries_in entries.now sizes.count)) }
+fn next_pair(view: &View, from: usize) -> Next<Words>
+    requires { Shaped (seen view.now) × (from ≤ view.now.sizes.size) }
+    ensures { result ≡ in_words (first (tabulate (view.now.sizes.size - from) (pair_at view.now.array.now) from ++ entries_in view.now.entries.now view.now.sizes.count)) }
 {
-    let size = sizes.size;
-    let mut i = from;
-    while i < size {
-        let v = lent::value_at(array, i);
-        if !value::is_nil(v) {
-            return NextWords::Found(
-                Words {
-                    kind: 2,
-                    payload: i as u64 + 1,
-                },
-                v,
-            );
+    for i in from..view.sizes.size {
+        let v = lent::value_at(view.array, i);
+        if !v.is_nil() {
+            return Next::Found(Words::new(2, i as u64 + 1), v);
         }
-        i += 1;
     }
-    next_entry(entries, sizes.count, 0)
+    next_entry(&view.in_use(), 0)
 }
 
 // The pair after a canonical key.
-fn next_key(array: &[u64], entries: &[u64], index: &[Word], sizes: Record, key: Words) -> NextWords
-    requires { Shaped (store_of array.now entries.now index.now sizes) }
-    ensures { NextKey (store_of array.now entries.now index.now sizes) key result }
+fn next_key(view: &View, key: Words) -> Next<Words>
+    requires { Shaped (seen view.now) }
+    ensures { NextKey (seen view.now) key result }
 {
-    if store::is_within(key, sizes.size) {
-        return next_pair(array, entries, sizes, store::place_of(key) + 1);
+    if store::is_within(key, view.sizes.size) {
+        return next_pair(view, store::place_of(key) + 1);
     }
-    match index::search(entries, sizes.count, index, key) {
-        Found::At(i) => next_entry(entries, sizes.count, i + 1),
-        Found::Absent(_) => NextWords::NotFound,
-        Found::Full => NextWords::NotFound,
+    let entries = view.in_use();
+    match index::search(&entries, view.index, key) {
+        Found::At(i) => next_entry(&entries, i + 1),
+        Found::Absent(_) => Next::NotFound,
+        Found::Full => Next::NotFound,
     }
 }
 
-pub fn next_words(
-    array: &[u64],
-    entries: &[u64],
-    index: &[Word],
-    sizes: Record,
-    key: Words,
-) -> NextWords
-    ensures { NextAnswers (store_of array.now entries.now index.now sizes) key result }
+pub fn next_words(view: &View, key: Words) -> Result<Next<Words>, Refusal>
+    ensures { NextAnswers (seen view.now) key result }
 {
-    if !store::right_shape(array.len(), entries.len(), index.len(), sizes) {
-        return NextWords::No(key::WRONG_SHAPE);
-    }
-    if !lent::decodable(key) {
-        return NextWords::No(key::NO_VALUE);
-    }
+    accept_key(view, key)?;
     match key::canonical_key(key) {
-        CanonicalKey::Key(k) => next_key(array, entries, index, sizes, k),
-        CanonicalKey::No(n) => {
-            if n == key::KEY_IS_NIL {
-                next_pair(array, entries, sizes, 0)
-            } else {
-                NextWords::NotFound
-            }
-        }
+        Ok(k) => Ok(next_key(view, k)),
+        Err(Refusal::KeyIsNil) => Ok(next_pair(view, 0)),
+        Err(_) => Ok(Next::NotFound),
     }
 }
 
-fn is_nil_at(array: &[u64], entries: &[u64], index: &[Word], sizes: Record, n: u64) -> bool
-    requires { Shaped (store_of array.now entries.now index.now sizes) }
-    ensures { Sound (store_of array.now entries.now index.now sizes) → result ≡ nil_at (table_of (store_of array.now entries.now index.now sizes)) n }
+fn is_nil_at(view: &View, n: u64) -> bool
+    requires { Shaped (seen view.now) }
+    ensures { Sound (seen view.now) → result ≡ nil_at (table_of (seen view.now)) n }
 {
-    value::is_nil(get_key(
-        array,
-        entries,
-        index,
-        sizes,
-        Words {
-            kind: 2,
-            payload: n,
-        },
-    ))
+    get_key(view, Words::new(2, n)).is_nil()
 }
 
 // Whether an Integer has an entry, cleared or not.
-fn has_entry(entries: &[u64], index: &[Word], count: usize, n: u64) -> bool
-    requires { (4 * count ≤ len entries.now) × (0 < len index.now) }
-    ensures { Right entries.now count index.now → result ≡ has (entries_in entries.now count) (integer n) }
+fn has_entry(entries: &Entries, index: &[Word], n: u64) -> bool
+    requires { 0 < len index.now }
+    ensures { Right entries.now.words.now entries.now.count index.now → result ≡ has (entries_in entries.now.words.now entries.now.count) (integer n) }
 {
-    let key = Words {
-        kind: 2,
-        payload: n,
-    };
-    match index::search(entries, count, index, key) {
+    match index::search(entries, index, Words::new(2, n)) {
         Found::At(_) => true,
         Found::Absent(_) => false,
         Found::Full => false,
@@ -192,14 +153,14 @@ fn has_entry(entries: &[u64], index: &[Word], count: usize, n: u64) -> bool
 }
 
 // From a number on, doubled past each that has an entry, up to the largest integer.
-fn double(entries: &[u64], index: &[Word], count: usize, from: u64) -> u64
-    requires { (4 * count ≤ len entries.now) × (0 < len index.now) × (0 < from) × (from ≤ largest) }
+fn double(entries: &Entries, index: &[Word], from: u64) -> u64
+    requires { (0 < len index.now) × (0 < from) × (from ≤ largest) }
     ensures range { (from ≤ result) × (result ≤ largest) }
-    ensures right { Right entries.now count index.now → result ≡ doubled (λ n. has (entries_in entries.now count) (integer n)) 64 from }
+    ensures right { Right entries.now.words.now entries.now.count index.now → result ≡ doubled (λ n. has (entries_in entries.now.words.now entries.now.count) (integer n)) 64 from }
 {
     let mut max = from;
     while max < LARGEST {
-        if !has_entry(entries, index, count, max) {
+        if !has_entry(entries, index, max) {
             return max;
         }
         max = if LARGEST / 2 < max { LARGEST } else { 2 * max };
@@ -208,15 +169,15 @@ fn double(entries: &[u64], index: &[Word], count: usize, from: u64) -> u64
 }
 
 // Halving: a Nil in the middle moves the upper end, else the lower one.
-fn halve(array: &[u64], entries: &[u64], index: &[Word], sizes: Record, low: u64, high: u64) -> u64
-    requires { Shaped (store_of array.now entries.now index.now sizes) × (low ≤ high) }
-    ensures { Sound (store_of array.now entries.now index.now sizes) → result ≡ halved (nil_at (table_of (store_of array.now entries.now index.now sizes))) 64 low high }
+fn halve(view: &View, low: u64, high: u64) -> u64
+    requires { Shaped (seen view.now) × (low ≤ high) }
+    ensures { Sound (seen view.now) → result ≡ halved (nil_at (table_of (seen view.now))) 64 low high }
 {
     let mut min = low;
     let mut max = high;
     while 1 < max - min {
         let mid = min + (max - min) / 2;
-        if is_nil_at(array, entries, index, sizes, mid) {
+        if is_nil_at(view, mid) {
             max = mid;
         } else {
             min = mid;
@@ -225,33 +186,27 @@ fn halve(array: &[u64], entries: &[u64], index: &[Word], sizes: Record, low: u64
     min
 }
 
-fn border(array: &[u64], entries: &[u64], index: &[Word], sizes: Record) -> u64
-    requires { Shaped (store_of array.now entries.now index.now sizes) }
-    ensures { Sound (store_of array.now entries.now index.now sizes) → result ≡ length_of (table_of (store_of array.now entries.now index.now sizes)) }
+fn border(view: &View) -> u64
+    requires { Shaped (seen view.now) }
+    ensures { Sound (seen view.now) → result ≡ length_of (table_of (seen view.now)) }
 {
-    let size = sizes.size;
-    if 0 < size {
-        if value::is_nil(lent::value_at(array, size - 1)) {
-            return halve(array, entries, index, sizes, 0, size as u64);
-        }
+    let size = view.sizes.size;
+    if 0 < size && lent::value_at(view.array, size - 1).is_nil() {
+        return halve(view, 0, size as u64);
     }
-    if sizes.count == 0 {
+    if view.sizes.count == 0 {
         return size as u64;
     }
-    let max = double(entries, index, sizes.count, size as u64 + 1);
-    if max == LARGEST {
-        if !is_nil_at(array, entries, index, sizes, max) {
-            return max;
-        }
+    let max = double(&view.in_use(), view.index, size as u64 + 1);
+    if max == LARGEST && !is_nil_at(view, max) {
+        return max;
     }
-    halve(array, entries, index, sizes, size as u64, max)
+    halve(view, size as u64, max)
 }
 
-pub fn length(array: &[u64], entries: &[u64], index: &[Word], sizes: Record) -> Measured
-    ensures { LengthAnswers (store_of array.now entries.now index.now sizes) result }
+pub fn length(view: &View) -> Result<u64, Refusal>
+    ensures { LengthAnswers (seen view.now) result }
 {
-    if !store::right_shape(array.len(), entries.len(), index.len(), sizes) {
-        return Measured::No(key::WRONG_SHAPE);
-    }
-    Measured::Length(border(array, entries, index, sizes))
+    accept(view)?;
+    Ok(border(view))
 }

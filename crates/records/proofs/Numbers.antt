@@ -1,13 +1,14 @@
 -- Numbers as bytes, the lowest byte first: so many bytes hold exactly the numbers below that power of 256. Assumes nothing.
-use mathlib.Core.Path.{◌≡◌, refl, ap, ◌∙◌}
-use mathlib.Core.List.{List, [], ◌∷◌}
-use Prim.Native.Nat.{ℕ, zero, suc, ◌+◌, ◌-◌, ◌*◌, ◌/◌, ◌%◌, ◌^◌, ◌≤◌, ◌<◌}
-use native.Mathlib.Nat.{le_refl, div-lt_iff_lt-mul, pow-suc}
+use mathlib.Core.Path.{◌≡◌, refl, ap}
+use mathlib.Core.List.{List, [], ◌∷◌, ◌++◌, append-nil}
+use Prim.Native.Nat.{ℕ, zero, suc, ◌+◌, ◌*◌, ◌/◌, ◌%◌, ◌^◌, ◌≤◌, ◌<◌}
+use native.Mathlib.Nat.{div-lt_iff_lt-mul, pow-suc}
 use native.Mathlib.Omega.{arith}
 use lib.Dec.{ltb, lit<}
-use lib.ListN.{length, get_or, take, drop, length-append, length-take, get_or-eq_default}
+use lib.ListN.{length, get_or, take, drop, replicate, length-append, length-take, get_or-eq_default}
 use lib.Seq.{drop-cons, get_or-take, get_or-drop}
 use borrow.Author.Tests.{ltb-true, ltb-false}
+use Rattle.std.specs.Int.{w64, from_le_bytes}
 use Rattle.value.specs.declared.Words.{Words}
 use Rattle.value.proofs.Cases.{caseb}
 use Rattle.records.specs.Bytes.{AllBytes, number, little_endian, value_bytes, head_bytes}
@@ -61,39 +62,26 @@ pub number-part : (n at : ℕ) (bs : List ℕ) → AllBytes bs → number (take 
 number-part n at bs h =
     number-below n (take n (drop at bs)) (take-bytes n (drop at bs) (drop-bytes at bs h)) (omega (arith, length-take n (drop at bs)))
 
--- ---- the bytes from `at` on, read from the last to the first: where the loop is when those from byte i on are read
-pub record ReadFrom (bs : List ℕ) (at count n i : ℕ) : Type 0 where
-  pub inside : i ≤ count
-  pub is : n ≡ number (take (count - i) (drop (at + i) bs))
-
-pub read-start : (bs : List ℕ) (at count : ℕ) → ReadFrom bs at count 0 count
+-- ---- as the program reads them
+pub number-byte : (at : ℕ) (bs : List ℕ) → at < length bs → number (take 1 (drop at bs)) ≡ get_or bs at 0
 unfolding number
-read-start bs at count =
-    let none : count - count ≡ 0 = omega arith in
-    record { inside = le_refl count; is = rw none }
+number-byte at bs h = rw (drop-cons bs at 0) (omega arith)
 
-pub read-turn : (bs : List ℕ) (at count n i : ℕ) → at + count ≤ length bs → 0 < i → ReadFrom bs at count n i
-    → ReadFrom bs at count (get_or bs (at + (i - 1)) 0 + 256 * n) (i - 1)
+-- 8 bytes at most, with zeros after them
+pub padded : (bs : List ℕ) → length bs ≤ 8 → from_le_bytes w64 (bs ++ drop (length bs) (replicate 8 0)) ≡ number bs
 unfolding number
-read-turn bs at count n i h p r =
-    let first : ℕ = at + (i - 1) in
-    let many : count - (i - 1) ≡ suc (count - i) = omega (arith, r.inside) in
-    let next : suc first ≡ at + i = omega arith in
-    record {
-      inside = omega (arith, r.inside);
-      is = rw (many, drop-cons bs first 0 (omega (arith, r.inside)), next, ← r.is);
-    }
+padded [] h = refl
+padded (a ∷ []) h = omega arith
+padded (a ∷ b ∷ []) h = omega arith
+padded (a ∷ b ∷ c ∷ []) h = omega arith
+padded (a ∷ b ∷ c ∷ d ∷ []) h = omega arith
+padded (a ∷ b ∷ c ∷ d ∷ e ∷ []) h = omega arith
+padded (a ∷ b ∷ c ∷ d ∷ e ∷ f ∷ []) h = omega arith
+padded (a ∷ b ∷ c ∷ d ∷ e ∷ f ∷ g ∷ []) h = omega arith
+padded (a ∷ b ∷ c ∷ d ∷ e ∷ f ∷ g ∷ i ∷ []) h = omega arith
+padded (a ∷ b ∷ c ∷ d ∷ e ∷ f ∷ g ∷ i ∷ j ∷ bs) h = absurd (omega arith)
 
--- of 8 bytes at most, one of them to come
-pub read_small : (bs : List ℕ) (at count n i : ℕ) → AllBytes bs → count ≤ 8 → 0 < i → ReadFrom bs at count n i → n < 256 ^ 7
-read_small bs at count n i h l p r =
-    let part : List ℕ = take (count - i) (drop (at + i) bs) in
-    rw r.is
-    (number-below 7 part (take-bytes (count - i) (drop (at + i) bs) (drop-bytes (at + i) bs h))
-    (omega (arith, length-take (count - i) (drop (at + i) bs))))
-
-pub read-end : (bs : List ℕ) (at count n i : ℕ) → i ≤ 0 → ReadFrom bs at count n i → n ≡ number (take count (drop at bs))
-read-end bs at count n i h r =
-    let many : count - i ≡ count = omega arith in
-    let first : at + i ≡ at = omega arith in
-    r.is ∙ rw (many, first)
+pub number-word : (bs : List ℕ) → length bs ≡ 8 → from_le_bytes w64 bs ≡ number bs
+number-word bs h =
+    let none : drop {A = ℕ} (length bs) (replicate 8 0) ≡ [] = rw h in
+    rw (none, append-nil bs) at (padded bs (omega arith))

@@ -4,7 +4,10 @@ use mathlib.Core.List.{List, [], ◌++◌, append_assoc, append-nil}
 use Prim.Native.Nat.{ℕ, ◌+◌, ◌-◌, ◌^◌, ◌≤◌, ◌<◌}
 use native.Mathlib.Omega.{arith}
 use lib.ListN.{length, take, drop, length-append, length-drop}
+use borrow.Author.Tests.{eq-eqb}
 use lib.Seq.{take_all, take_at, drop_at, take-add, drop-drop, length-take-le}
+use Rattle.std.specs.Prelude.{Some, Ok}
+use Rattle.std.specs.Result.{result_map_both}
 use Rattle.value.specs.declared.Words.{Words}
 use Rattle.value.specs.declared.Function.{Function}
 use Rattle.value.specs.declared.Function.TheVariants.{Closure, Callback}
@@ -14,11 +17,10 @@ use Rattle.value.specs.Encoding.{words, function_kind, kind_of, value_of, Decode
 use Rattle.value.proofs.RoundTrip.{read-stored, value_read as value-decoded}
 use Rattle.records.specs.declared.Request.{Request}
 use Rattle.records.specs.declared.Request.TheVariants.{Get, Set, Length, Next, Reserve}
-use Rattle.records.specs.declared.Reading.TheVariants.{Request as Asks}
 use Rattle.records.specs.Bytes.{AllBytes, number, little_endian, value_bytes, value_in, head_bytes, framed}
 use Rattle.records.specs.Requests.{record_size, kind_in, body_in, body_reading, reading, request_bytes, Sendable, InTrace}
 use Rattle.records.proofs.Numbers.{length-bytes, length-value, length-head, number-bytes, bytes-number, number-below, take-bytes, drop-bytes, number-part}
-use Rattle.records.proofs.Ways.{reads-body, body-right, one-get, one-next, two-set}
+use Rattle.records.proofs.Ways.{reads-body}
 use Rattle.records.proofs.Readings.{asked, Formed, formed, is_get, is_set, is-length, is-next, is-reserve}
 
 -- ---- numbers and values
@@ -111,47 +113,41 @@ module _ (k : ℕ) (body rest : List ℕ) where
       ∙ ap (take (length body)) (drop_at (head_bytes (length body) k) (body ++ rest) 4 (length-head (length body) k))
       ∙ take_at body rest (length body) refl
 
-  frame-read : 2 + length body < 256 ^ 2 → k < 256 ^ 2 → reading (framed k body ++ rest) ≡ body_reading k body
+  frame-read : 2 + length body < 256 ^ 2 → k < 256 ^ 2 → reading (framed k body ++ rest) ≡ result_map_both Some (λ f. f) (body_reading k body)
   frame-read h g =
       let bs : List ℕ = framed k body ++ rest in
       let size : record_size bs ≡ 4 + length body = frame-size h in
       let long : length bs ≡ 4 + length body + length rest = omega (arith, length-append (framed k body) rest, length-frame) in
-      reads-body bs (omega arith) (omega arith) (omega arith) ∙ ap₂ body_reading (frame-kind g) (frame-body h)
+      reads-body bs (omega arith) (omega arith) (omega arith) ∙ rw (frame-kind g, frame-body h)
 
-  framed-reads : (q : Request) → 2 + length body < 256 ^ 2 → k < 256 ^ 2 → body_reading k body ≡ Asks q
-      → (reading (framed k body ++ rest) ≡ Asks q) × (record_size (framed k body ++ rest) ≡ length (framed k body))
-  framed-reads q h g r = (frame-read h g ∙ r, frame-size h ∙ sym length-frame)
+  framed-reads : (q : Request) → 2 + length body < 256 ^ 2 → k < 256 ^ 2 → body_reading k body ≡ Ok q
+      → (reading (framed k body ++ rest) ≡ Ok (Some q)) × (record_size (framed k body ++ rest) ≡ length (framed k body))
+  framed-reads q h g r = (frame-read h g ∙ rw r, frame-size h ∙ sym length-frame)
 
 -- ---- a request's body
 value-alone : (w : Words) → Sendable w → value_in 0 (value_bytes w) ≡ w
 value-alone w s = ap (value_in 0) (sym (append-nil (value_bytes w))) ∙ value_read w [] s
 
-get-read : (w : Words) → Sendable w → body_reading 1 (value_bytes w) ≡ Asks (Get w)
-get-read w s =
-    body-right 1 (value_bytes w) (omega arith) (omega arith) (length-value w)
-    ∙ one-get 1 w (value_in 0 (value_bytes w)) (sym (value-alone w s)) s.0 refl
+get-read : (w : Words) → Sendable w → body_reading 1 (value_bytes w) ≡ Ok (Get w)
+get-read w s = rw (eq-eqb (length (value_bytes w)) 9 (length-value w), value-alone w s, s.0)
 
-next-read : (w : Words) → Sendable w → body_reading 4 (value_bytes w) ≡ Asks (Next w)
-next-read w s =
-    body-right 4 (value_bytes w) (omega arith) (omega arith) (length-value w)
-    ∙ one-next 4 w (value_in 0 (value_bytes w)) (sym (value-alone w s)) s.0 (λ e. omega arith)
+next-read : (w : Words) → Sendable w → body_reading 4 (value_bytes w) ≡ Ok (Next w)
+next-read w s = rw (eq-eqb (length (value_bytes w)) 9 (length-value w), value-alone w s, s.0)
 
 length_two : (k v : Words) → length (value_bytes k ++ value_bytes v) ≡ 18
 length_two k v = omega (arith, length-append (value_bytes k) (value_bytes v), length-value k, length-value v)
 
-set-read : (k v : Words) → Sendable k → Sendable v → body_reading 2 (value_bytes k ++ value_bytes v) ≡ Asks (Set k v)
+set-read : (k v : Words) → Sendable k → Sendable v → body_reading 2 (value_bytes k ++ value_bytes v) ≡ Ok (Set k v)
 set-read k v s t =
     let body : List ℕ = value_bytes k ++ value_bytes v in
     let second : value_in 9 body ≡ v = rw (append-nil (value_bytes v)) at (value_after 9 v (value_bytes k) [] (length-value k) t) in
-    body-right 2 body (omega arith) (omega arith) (length_two k v)
-    ∙ two-set k v (value_in 0 body) (value_in 9 body) (sym (value_read k (value_bytes v) s)) (sym second) s.0 t.0
+    rw (eq-eqb (length body) 18 (length_two k v), value_read k (value_bytes v) s, second, s.0, t.0)
 
-reserve-read : (n : ℕ) → n < 2 ^ 32 → body_reading 5 (little_endian 4 n) ≡ Asks (Reserve n)
-reserve-read n h =
-    body-right 5 (little_endian 4 n) (omega arith) (omega arith) (length-bytes 4 n) ∙ ap (λ (m : ℕ). Asks (Reserve m)) (number-bytes 4 n h)
+reserve-read : (n : ℕ) → n < 2 ^ 32 → body_reading 5 (little_endian 4 n) ≡ Ok (Reserve n)
+reserve-read n h = rw (eq-eqb (length (little_endian 4 n)) 4 (length-bytes 4 n), number-bytes 4 n h)
 
 pub request-read : (q : Request) (rest : List ℕ) → InTrace q
-    → (reading (request_bytes q ++ rest) ≡ Asks q) × (record_size (request_bytes q ++ rest) ≡ length (request_bytes q))
+    → (reading (request_bytes q ++ rest) ≡ Ok (Some q)) × (record_size (request_bytes q ++ rest) ≡ length (request_bytes q))
 request-read (Get w) rest s = framed-reads 1 (value_bytes w) rest (Get w) (omega (arith, length-value w)) (omega arith) (get-read w s)
 request-read (Set k v) rest s =
     framed-reads 2 (value_bytes k ++ value_bytes v) rest (Set k v) (omega (arith, length_two k v)) (omega arith) (set-read k v s.0 s.1)
@@ -194,7 +190,7 @@ frame-bytes bs h l f =
     ∙ part-split 4 n 0 bs
     ∙ ap (λ (m : ℕ). take m bs) all
 
-pub read-request : (bs : List ℕ) (q : Request) → AllBytes bs → reading bs ≡ Asks q → InTrace q × (take (record_size bs) bs ≡ request_bytes q)
+pub read-request : (bs : List ℕ) (q : Request) → AllBytes bs → reading bs ≡ Ok (Some q) → InTrace q × (take (record_size bs) bs ≡ request_bytes q)
 read-request bs q h r =
     let a = asked bs q r in
     let body = take-bytes (record_size bs - 4) (drop 4 bs) (drop-bytes 4 bs h) in

@@ -2,9 +2,10 @@
 // input, or the fault there. Nothing is assumed of the bytes; a number or a value must lie in the slice.
 #![tactic(auto)]
 
-ghost use Rattle.std.specs.Prelude.{◌≡◌, ◌+◌, ◌≤◌, length, take, drop};
+ghost use Rattle.std.specs.Prelude.{◌≡◌, ◌+◌, ◌≤◌, length};
+ghost use Rattle.value.specs.Encoding.{decodes};
 ghost use Rattle.records.specs.Bytes.{number, value_in};
-ghost use Rattle.records.specs.Requests.{record_size, is_whole, body_length, one_value, two_values, request_in, body_reading, reading};
+ghost use Rattle.records.specs.Requests.{fault_number, kind_of, body_length, or_undecodable, record_size, is_whole, body_reading, reading};
 
 use value::Words;
 
@@ -17,35 +18,73 @@ pub enum Request {
     Reserve(u64),
 }
 
+// What is wrong with a record, by its number in a reply. The same numbers stand in specs/Requests.antt.
 #[derive(Clone, Copy)]
-pub enum Reading {
-    // the input has ended
-    End,
-    Request(Request),
-    Fault(u8),
+pub enum Fault {
+    Cut = 1,
+    UnknownKind = 2,
+    WrongLength = 3,
+    Undecodable = 4,
 }
 
-// The faults. The same numbers stand in specs/Requests.antt.
-const CUT: u8 = 1;
+impl From<Fault> for u8 {
+    ghost from_gives = { λ fault n. n ≡ fault_number fault };
 
-const UNKNOWN_KIND: u8 = 2;
-
-const WRONG_LENGTH: u8 = 3;
-
-const UNDECODABLE: u8 = 4;
-
-// The number in so many bytes, the lowest first.
-pub fn number_at(bytes: &[u8], at: usize, count: usize) -> u64
-    requires { (at + count ≤ length bytes.now) × (count ≤ 8) }
-    ensures { result ≡ number (take count (drop at bytes.now)) }
-{
-    let mut n = 0u64;
-    let mut i = count;
-    while i > 0 {
-        i -= 1;
-        n = bytes[at + i] as u64 + 256 * n;
+    fn from(fault: Fault) -> u8 {
+        fault as u8
     }
-    n
+}
+
+// What a request asks for, by which its body is read.
+#[derive(Clone, Copy)]
+enum Kind {
+    Get,
+    Set,
+    Length,
+    Next,
+    Reserve,
+}
+
+impl TryFrom<u64> for Kind {
+    type Error = Fault;
+
+    ghost try_from_gives = { λ n result. result ≡ kind_of n };
+
+    fn try_from(n: u64) -> Result<Kind, Fault> {
+        match n {
+            1 => Ok(Kind::Get),
+            2 => Ok(Kind::Set),
+            3 => Ok(Kind::Length),
+            4 => Ok(Kind::Next),
+            5 => Ok(Kind::Reserve),
+            _ => Err(Fault::UnknownKind),
+        }
+    }
+}
+
+impl Kind {
+    // How many bytes follow the kind.
+    fn body_length(self) -> usize
+        ensures { result ≡ body_length self }
+    {
+        match self {
+            Kind::Get => 9,
+            Kind::Set => 18,
+            Kind::Length => 0,
+            Kind::Next => 9,
+            Kind::Reserve => 4,
+        }
+    }
+}
+
+// The number that bytes are, the lowest first.
+pub fn number(bytes: &[u8]) -> u64
+    requires { length bytes.now ≤ 8 }
+    ensures { result ≡ number bytes.now }
+{
+    let mut word = [0; 8];
+    word[..bytes.len()].copy_from_slice(bytes);
+    u64::from_le_bytes(word)
 }
 
 // A value is its kind byte and 8 payload bytes.
@@ -54,8 +93,8 @@ pub fn value_in(bytes: &[u8], at: usize) -> Words
     ensures { result ≡ value_in at bytes.now }
 {
     Words {
-        kind: number_at(bytes, at, 1),
-        payload: number_at(bytes, at + 1, 8),
+        kind: u64::from(bytes[at]),
+        payload: number(&bytes[at + 1..at + 9]),
     }
 }
 
@@ -64,10 +103,11 @@ pub fn record_size(input: &[u8]) -> usize
     requires { 2 ≤ length input.now }
     ensures { result ≡ record_size input.now }
 {
-    2 + number_at(input, 0, 2) as usize
+    2 + number(&input[..2]) as usize
 }
 
 // Whether no further input changes what the record at the start is read as.
+#[tactic(auto, unfolding(crate::specs::Requests::is_whole))]
 pub fn is_whole(input: &[u8]) -> bool
     ensures { result ≡ is_whole input.now }
 {
@@ -75,99 +115,54 @@ pub fn is_whole(input: &[u8]) -> bool
         return false;
     }
     let size = record_size(input);
-    if size < 4 {
-        return true;
-    }
-    size <= input.len()
+    size < 4 || size <= input.len()
 }
 
-fn body_length(kind: u64) -> usize
-    ensures { result ≡ body_length kind }
+fn read_value(bytes: &[u8], at: usize) -> Result<Words, Fault>
+    requires { at + 9 ≤ length bytes.now }
+    ensures { result ≡ or_undecodable (decodes (value_in at bytes.now)) (value_in at bytes.now) }
 {
-    match kind {
-        1 => 9,
-        2 => 18,
-        3 => 0,
-        4 => 9,
-        _ => 4,
+    let v = value_in(bytes, at);
+    if lent::decodable(v) {
+        Ok(v)
+    } else {
+        Err(Fault::Undecodable)
     }
 }
 
-fn read_value(kind: u64, body: &[u8]) -> Reading
-    requires { length body.now ≡ 9 }
-    ensures { result ≡ one_value kind (value_in 0 body.now) }
-{
-    let v = value_in(body, 0);
-    if !lent::decodable(v) {
-        return Reading::Fault(UNDECODABLE);
-    }
-    if kind == 1 {
-        return Reading::Request(Request::Get(v));
-    }
-    Reading::Request(Request::Next(v))
-}
-
-fn read_values(body: &[u8]) -> Reading
-    requires { length body.now ≡ 18 }
-    ensures { result ≡ two_values (value_in 0 body.now) (value_in 9 body.now) }
-{
-    let key = value_in(body, 0);
-    let v = value_in(body, 9);
-    if !lent::decodable(key) {
-        return Reading::Fault(UNDECODABLE);
-    }
-    if !lent::decodable(v) {
-        return Reading::Fault(UNDECODABLE);
-    }
-    Reading::Request(Request::Set(key, v))
-}
-
-// A body of the kind's length.
-fn read_request(kind: u64, body: &[u8]) -> Reading
-    requires { length body.now ≡ body_length kind }
-    ensures { result ≡ request_in kind body.now }
-{
-    match kind {
-        1 => read_value(kind, body),
-        2 => read_values(body),
-        3 => Reading::Request(Request::Length),
-        4 => read_value(kind, body),
-        _ => Reading::Request(Request::Reserve(number_at(body, 0, 4))),
-    }
-}
-
-fn read_body(kind: u64, body: &[u8]) -> Reading
+fn read_body(kind: u64, body: &[u8]) -> Result<Request, Fault>
     ensures { result ≡ body_reading kind body.now }
 {
-    if kind < 1 {
-        return Reading::Fault(UNKNOWN_KIND);
+    let kind = Kind::try_from(kind)?;
+    if body.len() != kind.body_length() {
+        return Err(Fault::WrongLength);
     }
-    if 5 < kind {
-        return Reading::Fault(UNKNOWN_KIND);
+    match kind {
+        Kind::Get => Ok(Request::Get(read_value(body, 0)?)),
+        Kind::Set => Ok(Request::Set(read_value(body, 0)?, read_value(body, 9)?)),
+        Kind::Length => Ok(Request::Length),
+        Kind::Next => Ok(Request::Next(read_value(body, 0)?)),
+        Kind::Reserve => Ok(Request::Reserve(number(body))),
     }
-    if body.len() != body_length(kind) {
-        return Reading::Fault(WRONG_LENGTH);
-    }
-    read_request(kind, body)
 }
 
-// What the record at the start of the input is, the input ending where the slice ends.
-pub fn read(input: &[u8]) -> Reading
+// The request at the start of the input, the input ending where the slice ends; none where it has ended.
+#[tactic(auto, unfolding(crate::specs::Requests::reading))]
+pub fn read(input: &[u8]) -> Result<Option<Request>, Fault>
     ensures { result ≡ reading input.now }
 {
-    let left = input.len();
-    if left == 0 {
-        return Reading::End;
+    if input.is_empty() {
+        return Ok(None);
     }
-    if left == 1 {
-        return Reading::Fault(CUT);
+    if input.len() < 2 {
+        return Err(Fault::Cut);
     }
     let size = record_size(input);
     if size < 4 {
-        return Reading::Fault(WRONG_LENGTH);
+        return Err(Fault::WrongLength);
     }
-    if left < size {
-        return Reading::Fault(CUT);
+    if input.len() < size {
+        return Err(Fault::Cut);
     }
-    read_body(number_at(input, 2, 2), &input[4..size])
+    Ok(Some(read_body(number(&input[2..4]), &input[4..size])?))
 }

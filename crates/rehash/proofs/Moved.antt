@@ -1,13 +1,8 @@
 -- The array after entries went there: on a sound store its words are those of the values that its keys had in the table. Assumes nothing.
-use mathlib.Core.Path.{◌≡◌, refl, sym, ap, ◌∙◌}
-use mathlib.Core.Bool.{true, false, cond, ◌&&◌}
-use mathlib.Core.List.{List, [], ◌∷◌}
-use Prim.Native.Nat.{ℕ, suc, ◌+◌, ◌*◌, ◌/◌, ◌≤◌, ◌<◌}
-use native.Mathlib.Omega.{arith}
-use lib.Dec.{eqb, ltb}
-use lib.ListN.{length, get_or, set, length-set}
-use lib.Seq.{get_or-set_same, get_or-set_other}
-use borrow.Author.Tests.{eqb-true, eqb-false, ltb-true, ltb-false}
+use Rattle.std.proofs.Common.{◌≡◌, ℕ, suc, ◌+◌, ◌*◌, ◌/◌, ◌≤◌, ◌<◌, true, false, cond, ◌&&◌, List, [], ◌∷◌, length, get_or, set, eqb, refl, sym, ap, ◌∙◌, inl, inr, arith, length-set, get_or-set_same, get_or-set_other}
+use Rattle.std.proofs.lemmas.Bool.{cases_lt}
+use Rattle.std.proofs.lemmas.Bool.Decides.{nat_tests}
+use borrow.Author.Tests.{eqb-true, eqb-false}
 use Rattle.value.specs.declared.Words.{Words}
 use Rattle.value.specs.Encoding.{words}
 use Rattle.value.specs.Same.{same, nil, is_nil}
@@ -65,8 +60,8 @@ joined : (s : Entry) (ss : List Entry) (k w : Words) → has ss s.key ≡ false
 joined s ss k w h =
     caseb (same s.key k)
     (λ e. let none : find ss k ≡ nil = ap (find ss) (sym (same-eq s.key k e)) ∙ find_absent ss s.key h in
-    rw (e, none, over-nil) (caseb (is_nil s.value) (λ b. rw b) (λ b. rw b)))
-    (λ e. rw e (caseb (live s) (λ b. rw b) (λ b. rw b)))
+    rw (e, none, over-nil) (grind (arith, nat_tests)))
+    (λ e. rw e (grind (arith, nat_tests)))
 
 module _ (S n : ℕ) (room : 2 * S ≤ n) (small : S ≤ largest) where
   sent-lent : (s : Entry) (f : ℕ → Words) → sent S (lent_words n (tabulate S f 0)) s ≡ lent_words n (tabulate S (taken s f) 0)
@@ -150,4 +145,4 @@ module _ (s : Store) (g : Sound s) (S : ℕ) (more : s.sizes.size ≤ S) (room :
       ∙ moved-lent S (length aw) wide small entries (value_at aw) (sound-formed s g).apart
       ∙ ap (lent_words (length aw))
       (tabulate-cong S (λ i. over (find entries (integer (suc i))) (value_at aw i)) (keyed (table_of s)) 0
-      (λ i a b. caseb (ltb i A) (λ e. old i (ltb-true i A e)) (λ e. new i (ltb-false i A e) (omega arith))))
+      (λ i a b. elim (cases_lt i A) [ inl l ↦ old i l | inr l ↦ new i l (omega arith) ]))

@@ -1,13 +1,8 @@
 -- What a rehash leaves: words set to 0 between two places, and on a sound store the writing of the table's `rehashed`. Assumes nothing.
-use mathlib.Core.Path.{◌≡◌, refl, sym, ap, subst, ◌∙◌}
-use mathlib.Core.List.{List, ◌++◌}
-use Prim.Native.Nat.{ℕ, ◌+◌, ◌-◌, ◌*◌, ◌/◌, ◌≤◌, ◌<◌, max}
-use native.Mathlib.Omega.{arith}
-use lib.Dec.{ltb}
-use lib.ListN.{length, get_or, take, drop, replicate, take-append-drop, length-replicate, get_or-replicate, get_or-append}
-use lib.Seq.{length-take-le, get_or-append-add, get_or-take, get_or-drop}
-use borrow.Author.Tests.{ltb-true, ltb-false}
-use Rattle.value.proofs.Cases.{caseb}
+use Rattle.std.proofs.Common.{◌≡◌, ℕ, ◌-◌, ◌*◌, ◌/◌, ◌≤◌, ◌<◌, max, List, length, get_or, refl, sym, ap, subst, ◌∙◌, inl, inr, arith}
+use Rattle.std.proofs.Math.ListN.{take-append-drop}
+use Rattle.std.proofs.lemmas.Bool.{cases_lt}
+use Rattle.std.proofs.lemmas.Grind.{common_steps}
 use Rattle.lent.specs.Lent.{lent_words, ZeroFrom}
 use Rattle.index.specs.Home.{home_of}
 use Rattle.index.specs.Index.{index_of, homes, index_words, Indexes}
@@ -26,39 +21,14 @@ use Rattle.rehash.proofs.Moved.{keyed, moved-lookup}
 
 -- ---- words set to 0 between two places
 module _ (ws : List ℕ) (from to : ℕ) (h : from ≤ to) (g : to ≤ length ws) where
-  abbrev zeros : List ℕ
-  zeros = replicate (to - from) 0
-
-  many : length zeros ≡ to - from
-  many = length-replicate (to - from) 0
-
-  front : length (take from ws) ≡ from
-  front = length-take-le from ws (omega arith)
-
   zeroed-before : (p : ℕ) → p < from → get_or (zeroed ws from to) p 0 ≡ get_or ws p 0
-  zeroed-before p l =
-      get_or-append (take from ws) (zeros ++ drop to ws) 0 p (omega (arith, front)) ∙ get_or-take from ws p 0 l
-
-  zeroed-past : (p : ℕ) → from ≤ p → get_or (zeroed ws from to) p 0 ≡ get_or (zeros ++ drop to ws) (p - from) 0
-  zeroed-past p l =
-      let q : p ≡ length (take from ws) + (p - from) = omega (arith, front) in
-      ap (λ (x : ℕ). get_or (zeroed ws from to) x 0) q ∙ get_or-append-add (take from ws) (zeros ++ drop to ws) (p - from) 0
+  zeroed-before p l = grind (arith, common_steps)
 
   zeroed-within : (p : ℕ) → from ≤ p → p < to → get_or (zeroed ws from to) p 0 ≡ 0
-  zeroed-within p l r =
-      zeroed-past p l
-      ∙ get_or-append zeros (drop to ws) 0 (p - from) (omega (arith, many))
-      ∙ get_or-replicate (to - from) (p - from) 0 0 (omega arith)
+  zeroed-within p l r = grind (arith, common_steps)
 
   zeroed-after : (p : ℕ) → to ≤ p → get_or (zeroed ws from to) p 0 ≡ get_or ws p 0
-  zeroed-after p l =
-      let q : p - from ≡ length zeros + (p - to) = omega (arith, many) in
-      let r : to + (p - to) ≡ p = omega arith in
-      zeroed-past p (omega arith)
-      ∙ ap (λ (x : ℕ). get_or (zeros ++ drop to ws) x 0) q
-      ∙ get_or-append-add zeros (drop to ws) (p - to) 0
-      ∙ get_or-drop to ws (p - to) 0
-      ∙ ap (λ (x : ℕ). get_or ws x 0) r
+  zeroed-after p l = grind (arith, common_steps)
 
 -- ---- entries compacted, the words of those that are gone set to 0, the index taken back to `first` and placed again
 module _
@@ -105,12 +75,12 @@ module _
       unused : ZeroFrom (4 * n) ew'
       unused p l h =
           ap (λ (ws : List ℕ). get_or ws p 0) cleared
-          ∙ caseb (ltb p (4 * E))
-          (λ e. zeroed-within ew₁ (4 * n) (4 * E) low high p l (ltb-true p (4 * E) e))
-          (λ e. let b : 4 * E ≤ p = ltb-false p (4 * E) e in
-          zeroed-after ew₁ (4 * n) (4 * E) low high p b
-          ∙ c.rest p b
-          ∙ (sound-clauses s g).entries_unused p b (omega (arith, long_e, c.entries_long)))
+          ∙ elim (cases_lt p (4 * E)) [
+            | inl b ↦ zeroed-within ew₁ (4 * n) (4 * E) low high p l b
+            | inr b ↦ zeroed-after ew₁ (4 * n) (4 * E) low high p b
+                ∙ c.rest p b
+                ∙ (sound-clauses s g).entries_unused p b (omega (arith, long_e, c.entries_long))
+          ]
 
       entry-words : ew' ≡ lent_words (length ew) (sides (staying_in ew E S))
       entry-words =
@@ -141,16 +111,14 @@ module _
 
 -- ---- no entry goes
 zeroed-none : (ws : List ℕ) (from : ℕ) → ws ≡ zeroed ws from from
-zeroed-none ws from =
-    let p : 0 ≡ from - from = omega arith in
-    sym (take-append-drop from ws) ∙ ap (λ (n : ℕ). take from ws ++ (replicate n 0 ++ drop from ws)) p
+zeroed-none ws from = let p : from - from ≡ 0 = omega arith in rw p (sym (take-append-drop from ws))
 
 pub nothing-goes : (aw ew iw : List ℕ) (r : Record) (S first : ℕ) → r.size ≤ S → S ≤ length aw / 2 → 4 * r.count ≤ length ew → StaysTo ew first S → first ≡ r.count
-    → Rehashes (store_of aw ew iw r) S first (record { size = S; allowance = r.allowance; count = first })
-    (store_of aw ew iw (record { size = S; allowance = r.allowance; count = first }))
+    → Rehashes (store_of aw ew iw r) S first (record { size = S; allowance = r.allowance; count = r.count })
+    (store_of aw ew iw (record { size = S; allowance = r.allowance; count = r.count }))
 nothing-goes aw ew iw r S first more room fits h q =
-    rehashes aw ew iw r S first first more room fits iw aw ew ew iw
+    rehashes aw ew iw r S first r.count more room fits iw aw ew ew iw
     (λ p. p ∙ ap (index_words (length iw) ew) (sym q))
-    (subst (λ (i : ℕ). Compacted aw ew first S i first aw ew) q (compact-start aw ew first S h))
-    (zeroed-none ew (4 * first) ∙ ap (λ (e : ℕ). zeroed ew (4 * first) (4 * e)) q)
-    (λ p. p) refl refl refl (λ e. refl)
+    (subst (λ (i : ℕ). Compacted aw ew first S i i aw ew) q (compact-start h))
+    (zeroed-none ew (4 * r.count))
+    (λ p. p ∙ ap (index_words (length iw) ew) q) refl refl refl (λ e. refl)

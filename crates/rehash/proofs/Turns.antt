@@ -1,42 +1,22 @@
--- Entries one by one: when one stays and where one goes, and the turns of the loops that count them and compact them. Assumes nothing.
-use mathlib.Core.Path.{◌≡◌, refl, sym, ap, ◌∙◌}
-use mathlib.Core.Bool.{Bool, true, false, not, cond, ◌&&◌}
-use mathlib.Core.List.{List, [], ◌∷◌, ◌++◌, append-nil}
-use mathlib.Core.Logic.{inl, inr}
-use Prim.Native.Nat.{ℕ, ◌+◌, ◌*◌, ◌≤◌, ◌<◌}
-use native.Mathlib.Numerals.{add-one}
-use native.Mathlib.Omega.{arith}
-use lib.ListN.{length, get_or, length-append}
-use borrow.Author.Tests.{not-true}
+-- Entries one by one: where one goes, how many stay and which is the first that does not, and the turns of the loop that compacts them. Assumes nothing.
+use Rattle.std.proofs.Common.{◌≡◌, ℕ, zero, suc, ◌+◌, ◌-◌, ◌*◌, ◌≤◌, ◌<◌, Bool, true, false, cond, List, [], ◌∷◌, ◌++◌, length, get_or, Option, Some, None, MatchOption, refl, sym, ap, ◌∙◌, inl, inr, append-nil, zero-add, add-zero, add-one, arith}
+use Rattle.std.specs.List.{filter, range_with_len}
+use Rattle.std.specs.Option.{unwrap_or}
+use Rattle.std.proofs.lemmas.Bool.Decides.{nat_tests}
 use Rattle.value.specs.Encoding.{words}
-use Rattle.value.specs.Same.{is_nil}
-use Rattle.value.proofs.Cases.{and_left, and_right}
-use Rattle.lent.specs.Lent.{value_at, put_value, put_entry}
-use Rattle.lent.proofs.Says.{none_below, one_more}
+use Rattle.value.proofs.Cases.{caseb}
+use Rattle.lent.specs.Lent.{value_at, put_entry}
 use Rattle.lent.proofs.Put.{length-put-entry, put-entry-at, put-entry-word}
-use Rattle.model.specs.Entries.{Entry, entry, keep, live, Each}
-use Rattle.model.specs.Table.{within, place_of}
-use Rattle.model.specs.Growth.{stays}
+use Rattle.model.specs.Entries.{Entry, entry, keep, Each}
+use Rattle.model.specs.Growth.{stays, tabulate}
 use Rattle.model.proofs.Entries.{keep_snoc, keep_all, each-tabulate, tabulate-snoc, tabulate-cong}
 use Rattle.store.specs.Written.{entry_at, entries_in}
 use Rattle.rehash.specs.Rehash.{staying_in, StaysTo, Surveyed, sent, moved, Compacted}
 
--- ---- one entry, by the two tests that code makes: its value is Nil, its key is within the array
-module _ (S : ℕ) (s : Entry) (b c : Bool) (p : is_nil s.value ≡ b) (q : within S s.key ≡ c) where
-  pub stays-is : stays S s ≡ (not b && not c)
-  unfolding stays
-  stays-is = rw (p, q)
-
-  pub sent_is : (ws : List ℕ) → sent S ws s ≡ cond (not b && c) (put_value ws (place_of s.key) s.value) ws
-  unfolding sent
-  sent_is ws = rw (p, q)
-
--- an entry that stays is not sent
+-- ---- an entry that stays is not sent
 sent-stays : (S : ℕ) (ws : List ℕ) (s : Entry) → stays S s ≡ true → sent S ws s ≡ ws
 unfolding stays sent
-sent-stays S ws s e =
-    let out = not (within S s.key) in
-    rw (not-true (within S s.key) (and_right (live s) out e), and_left (live s) out e)
+sent-stays S ws s e = grind (arith, nat_tests)
 
 -- ---- all of them
 moved_none : (S : ℕ) (ws : List ℕ) (l : List Entry) → Each (λ (s : Entry). stays S s ≡ true) l → moved S ws l ≡ ws
@@ -72,71 +52,51 @@ module _ (ws : List ℕ) (i : ℕ) where
       ∙ keep_snoc (stays S) (entries_in ws i) (entry_at ws i)
       ∙ ap (λ (c : Bool). staying_in ws i S ++ cond c (entry_at ws i ∷ []) []) e
 
--- ---- survey: of the first i entries n stay, and all that are before `first`, which is e until one is met that goes
-pub record Surveying (ws : List ℕ) (e S i n first : ℕ) : Type 0 where
-  pub number : n ≡ length (staying_in ws i S)
-  pub inside : first ≤ e
-  pub before : (j : ℕ) → j < i → j < first → stays S (entry_at ws j) ≡ true
-  pub met : (first ≡ e → ⊥) → first ≤ i
-  pub stops : first < e → stays S (entry_at ws first) ≡ false
+-- ---- survey: how many of the entries from a on stay, and where the first ones all do
+module _ (p : Entry → Bool) (f : ℕ → Entry) where
+  stay-filter : (n a : ℕ) → length (keep p (tabulate n f a)) ≡ length (filter (λ i. p (f i)) (range_with_len a n))
+  stay-filter zero a = refl
+  stay-filter (suc n) a =
+      caseb (p (f a))
+      (λ e. rw (e, add-one a) (ap suc (stay-filter n (suc a))))
+      (λ e. rw (e, add-one a) (stay-filter n (suc a)))
 
-pub survey-start : (ws : List ℕ) (e S : ℕ) → Surveying ws e S 0 0 e
-survey-start ws e S =
-    record {
-      number = refl;
-      inside = omega arith;
-      before = none_below (λ j. j < e → stays S (entry_at ws j) ≡ true);
-      met = λ h. absurd (h refl);
-      stops = λ h. absurd (omega arith);
-    }
+  stay-split : (first n a : ℕ) → ((i : ℕ) → a ≤ i → i < a + first → p (f i) ≡ true)
+      → length (keep p (tabulate (first + n) f a)) ≡ first + length (filter (λ i. p (f i)) (range_with_len (a + first) n))
+  stay-split zero n a h = rw (zero-add n, add-zero a) (omega (arith, stay-filter n a))
+  stay-split (suc first) n a h =
+      let e : suc first + n ≡ suc (first + n) = omega arith in
+      let d : a + suc first ≡ suc a + first = omega arith in
+      rw (e, d, h a (omega arith) (omega arith)) (omega (arith, stay-split first n (suc a) (λ i l g. h i (omega arith) (omega arith))))
 
-module _ (ws : List ℕ) (e S i n first : ℕ) (s : Surveying ws e S i n first) where
-  number_more : (b : Bool) → stays S (entry_at ws i) ≡ b → length (staying_in ws (i + 1) S) ≡ n + length (cond b (entry_at ws i ∷ []) [])
-  number_more b y = ap length (staying-more ws i S b y) ∙ length-append (staying_in ws i S) (cond b (entry_at ws i ∷ []) []) ∙ omega (arith, s.number)
+-- `first` by a search for one that goes, and what is counted from there on
+module _ (ws : List ℕ) (e S : ℕ) where
+  abbrev Stays : ℕ → Type 0
+  Stays i = stays S (entry_at ws i) ≡ true
 
-  pub survey-stays : stays S (entry_at ws i) ≡ true → Surveying ws e S (i + 1) (n + 1) first
-  survey-stays y =
-      record {
-        number = omega (arith, number_more true y);
-        inside = s.inside;
-        before = one_more (λ j. j < first → stays S (entry_at ws j) ≡ true) i s.before (λ h. y);
-        met = λ h. omega (arith, s.met h);
-        stops = s.stops;
-      }
+  abbrev Goes : ℕ → Type 0
+  Goes i = stays S (entry_at ws i) ≡ false
 
-  -- the first that goes, and one after it
-  pub survey-first : stays S (entry_at ws i) ≡ false → i < e → first ≡ e → Surveying ws e S (i + 1) n i
-  survey-first y h q =
-      record {
-        number = omega (arith, number_more false y);
-        inside = omega arith;
-        before = λ j l g. s.before j g (omega arith);
-        met = λ m. omega arith;
-        stops = λ l. y;
-      }
+  survey-number : (first n : ℕ) → first ≤ e → StaysTo ws first S → n ≡ length (filter (λ i. stays S (entry_at ws i)) (range_with_len first (e - first)))
+      → first + n ≡ length (staying_in ws e S)
+  survey-number first n h b q =
+      let all : first + (e - first) ≡ e = omega arith in
+      let split = rw (all, zero-add) at (stay-split (stays S) (entry_at ws) first (e - first) 0 (λ i l g. b i (omega arith))) in
+      omega (arith, split, q)
 
-  pub survey-later : stays S (entry_at ws i) ≡ false → (first ≡ e → ⊥) → Surveying ws e S (i + 1) n first
-  survey-later y q =
-      record {
-        number = omega (arith, number_more false y);
-        inside = s.inside;
-        before = λ j l g. s.before j (omega (arith, s.met q)) g;
-        met = λ h. omega (arith, s.met h);
-        stops = s.stops;
-      }
-
-pub survey-end : (ws : List ℕ) (e S n first : ℕ) → Surveying ws e S e n first → Surveyed ws e S (record { number = n; first = first })
-survey-end ws e S n first s =
-    record {
-      number = s.number;
-      inside = s.inside;
-      before = λ j h. s.before j (omega (arith, s.inside)) h;
-      stops = s.stops;
-    }
+  pub surveyed : (r : Option ℕ) (first n : ℕ) → first ≡ unwrap_or r e
+      → MatchOption r ((k : ℕ) → 0 ≤ k → k < e → Stays k) (λ i. (0 ≤ i) × (i < e) × Goes i × ((k : ℕ) → 0 ≤ k → k < i → Stays k))
+      → n ≡ length (filter (λ i. stays S (entry_at ws i)) (range_with_len first (e - first))) → Surveyed ws e S (record { number = first + n; first = first })
+  surveyed None first n f h q =
+      let before : StaysTo ws first S = λ i l. h i (omega arith) (omega arith) in
+      record { number = survey-number first n (omega arith) before q; inside = omega arith; before = before; stops = λ l. absurd (omega arith) }
+  surveyed (Some i) first n f h q =
+      let before : StaysTo ws first S = λ j l. h.3 j (omega arith) (omega arith) in
+      record { number = survey-number first n (omega arith) before q; inside = omega arith; before = before; stops = λ l. rw f h.2 }
 
 -- ---- compact
-pub compact-start : (aw ew : List ℕ) (first S : ℕ) → StaysTo ew first S → Compacted aw ew first S first first aw ew
-compact-start aw ew first S h =
+pub compact-start : {aw ew : List ℕ} {first S : ℕ} → StaysTo ew first S → Compacted aw ew first S first first aw ew
+compact-start {aw} {ew} {first} {S} h =
     let all : Each (λ (s : Entry). stays S s ≡ true) (entries_in ew first) =
     each-tabulate (λ (s : Entry). stays S s ≡ true) first (entry_at ew) 0 (λ i a b. h i (omega arith)) in
     record {
@@ -150,7 +110,7 @@ compact-start aw ew first S h =
       entries_long = refl;
     }
 
-module _ (aw ew : List ℕ) (first S i n : ℕ) (aw' ew' : List ℕ) (c : Compacted aw ew first S i n aw' ew') where
+module _ {aw ew : List ℕ} {first S i n : ℕ} {aw' ew' : List ℕ} (c : Compacted aw ew first S i n aw' ew') where
   -- entry i is still where it was
   here : entry_at ew' i ≡ entry_at ew i
   here = entry-same ew' ew i (λ p l g. c.rest p l)

@@ -4,14 +4,16 @@
 #![tactic(auto)]
 
 ghost use Rattle.std.specs.Prelude.{◌≡◌, ◌+◌, ◌*◌, ◌/◌, ◌≤◌, length};
+ghost use Rattle.model.specs.Entries.{entry};
 ghost use Rattle.model.specs.Growth.{stays as staying};
 ghost use Rattle.store.specs.Store.{store_of};
 ghost use Rattle.store.specs.Shape.{Shaped};
-ghost use Rattle.store.specs.Written.{entry_at};
 ghost use Rattle.rehash.specs.Rehash.{StaysTo, sent, Surveyed, Compacted, zeroed, Rehashes};
 
 use index::Word;
+use lent::Entries;
 use store::Record;
+use value::Words;
 
 // How many entries stay, and the first that does not.
 #[derive(Clone, Copy)]
@@ -21,66 +23,55 @@ pub struct Staying {
 }
 
 // Whether an entry stays one beside an array of this size.
-fn stays(entries: &[u64], i: usize, size: usize) -> bool
-    requires { 4 * i + 4 ≤ length entries.now }
-    ensures { result ≡ staying size (entry_at entries.now i) }
+#[tactic(auto, unfolding(model::specs::Growth::stays))]
+fn stays(key: Words, v: Words, size: usize) -> bool
+    ensures { result ≡ staying size (entry key v) }
 {
-    if value::is_nil(lent::value_at(entries, 2 * i + 1)) {
-        return false;
-    }
-    !store::is_within(lent::value_at(entries, 2 * i), size)
+    !v.is_nil() && !store::is_within(key, size)
 }
 
-pub fn survey(entries: &[u64], count: usize, size: usize) -> Staying
-    requires { 4 * count ≤ length entries.now }
-    ensures { Surveyed entries.now count size result }
+pub fn survey(entries: &Entries, size: usize) -> Staying
+    ensures { Surveyed entries.now.words.now entries.now.count size result }
 {
-    let mut n: usize = 0;
-    let mut first = count;
-    for i in 0..count {
-        if stays(entries, i, size) {
-            n += 1;
-        } else if first == count {
-            first = i;
-        }
-    }
+    let first = (0..entries.count)
+        .find(|&i| !stays(entries.key(i), entries.value(i), size))
+        .unwrap_or(entries.count);
+    let later = (first..entries.count)
+        .filter(|&i| stays(entries.key(i), entries.value(i), size))
+        .count();
     Staying {
-        number: n,
-        first: first,
+        number: first + later,
+        first,
     }
 }
 
-// Entry i goes to the array, where it has a value and an index below the size.
-fn send(array: &mut [u64], entries: &[u64], i: usize, size: usize)
-    requires { (4 * i + 4 ≤ length entries.now) × (2 * size ≤ length array.old) }
-    ensures { array.new ≡ sent size array.old (entry_at entries.now i) }
+// An entry goes to the array, where it has a value and an index below the size.
+#[tactic(auto, unfolding(crate::specs::Rehash::sent))]
+fn send(array: &mut [u64], key: Words, v: Words, size: usize)
+    requires { 2 * size ≤ length array.old }
+    ensures { array.new ≡ sent size array.old (entry key v) }
 {
-    let v = lent::value_at(entries, 2 * i + 1);
-    let key = lent::value_at(entries, 2 * i);
-    if !value::is_nil(v) {
-        if store::is_within(key, size) {
-            lent::put_value(array, store::place_of(key), v);
-        }
+    if !v.is_nil() && store::is_within(key, size) {
+        lent::put_value(array, store::place_of(key), v);
     }
 }
 
 // From entry `first` on, all before it staying. The answer is how many entries there are then.
+// A second number stands beside the range's: it counts what is kept, not what is read.
 fn compact(array: &mut [u64], entries: &mut [u64], first: usize, count: usize, size: usize) -> usize
     requires { (4 * count ≤ length entries.old) × (2 * size ≤ length array.old) × (first ≤ count) × StaysTo entries.old first size }
     ensures { Compacted array.old entries.old first size count result array.new entries.new }
 {
     let mut n = first;
-    let mut i = first;
-    while i < count {
-        if stays(entries, i, size) {
-            let key = lent::value_at(entries, 2 * i);
-            let v = lent::value_at(entries, 2 * i + 1);
+    for i in first..count {
+        let key = lent::value_at(entries, 2 * i);
+        let v = lent::value_at(entries, 2 * i + 1);
+        if stays(key, v, size) {
             lent::put_entry(entries, n, key, v);
             n += 1;
         } else {
-            send(array, entries, i, size);
+            send(array, key, v, size);
         }
-        i += 1;
     }
     n
 }
@@ -90,9 +81,7 @@ fn clear_entries(entries: &mut [u64], from: usize, to: usize)
     requires { (from ≤ to) × (4 * to ≤ length entries.old) }
     ensures { entries.new ≡ zeroed entries.old (4 * from) (4 * to) }
 {
-    let start = 4 * from;
-    let end = 4 * to;
-    lent::clear(&mut entries[start..end]);
+    entries[4 * from..4 * to].fill(0);
 }
 
 // The array has the given size then, and the record is answered. `first` is the first entry that goes: where none does, nothing is touched.
@@ -108,19 +97,23 @@ pub fn rehash(
     ensures { Rehashes (store_of array.old entries.old index.old sizes) size first result (store_of array.new entries.new index.new result) }
 {
     if first == sizes.count {
-        return Record {
-            size: size,
-            allowance: sizes.allowance,
-            count: first,
-        };
+        return Record { size, ..sizes };
     }
-    index::take_out(entries, index, first, sizes.count);
-    let n = compact(array, entries, first, sizes.count, size);
-    clear_entries(entries, n, sizes.count);
-    index::place_from(entries, index, first, n);
+    let before = Entries {
+        words: entries,
+        count: sizes.count,
+    };
+    index::take_out(&before, index, first);
+    let count = compact(array, entries, first, sizes.count, size);
+    clear_entries(entries, count, sizes.count);
+    let after = Entries {
+        words: entries,
+        count,
+    };
+    index::place_from(&after, index, first);
     Record {
-        size: size,
-        allowance: sizes.allowance,
-        count: n,
+        size,
+        count,
+        ..sizes
     }
 }

@@ -3,18 +3,16 @@
 // write, and ends the run.
 #![tactic(auto)]
 
-ghost use Rattle.std.specs.Prelude.{◌≡◌, ◌+◌, ◌<◌, ◌≤◌, length, IfSome};
-ghost use Rattle.replay.specs.Numbers.{file_room, output_room, modulus};
+ghost use Rattle.std.specs.Prelude.{◌<◌, ◌≤◌, length, IfSome};
 
+use index::Word;
 use std::env::FillError;
 use std::fs::File;
 use std::rt::{Env, Files};
 use std::{io, str};
-use store::Made;
 
 // The most bytes of a file and of a trace's input that tests/replay makes, and room for the output of such a trace: three times the input and
-// one longest reply, since a reply has at most three times its request's bytes (session's `Waits`). These and the modulus stand in
-// specs/Numbers.antt too.
+// one longest reply, since a reply has at most three times its request's bytes (session's `Waits`).
 const FILE: usize = 393216;
 
 const INPUT: usize = 65536;
@@ -26,11 +24,36 @@ const NEXT_REPLY: u64 = 260;
 // A prime below 2^55, so that 256 times a number below it fits in a word.
 const MODULUS: u64 = 36028797018963913;
 
-// A reply: its kind, where it ends, and its bytes as one number, modulo the prime.
+// How replies are compared: byte by byte, or those of a walk as a set.
+#[derive(Clone, Copy)]
+enum Method {
+    Exactly,
+    Sets,
+}
+
+impl From<&[u8]> for Method {
+    fn from(word: &[u8]) -> Method {
+        if word == b"sets".as_slice() {
+            Method::Sets
+        } else {
+            Method::Exactly
+        }
+    }
+}
+
+impl Method {
+    fn same(self, ours: &[u8], stored: &[u8]) -> bool {
+        match self {
+            Method::Exactly => ours == stored,
+            Method::Sets => same_as_sets(ours, stored),
+        }
+    }
+}
+
+// A reply: its kind, and its bytes as one number, modulo the prime.
 #[derive(Clone, Copy)]
 struct Part {
     kind: u64,
-    end: usize,
     digest: u64,
 }
 
@@ -40,156 +63,110 @@ struct Tally {
     otherwise: u64,
 }
 
-// Each contract gives only the length, which lending a part needs.
-fn file_room() -> [u8; FILE]
-    ensures { file_room ≡ length result }
-{
-    [0; FILE]
-}
-
-fn output_room() -> [u8; OUTPUT]
-    ensures { output_room ≡ length result }
-{
-    [0; OUTPUT]
-}
-
 fn digest_of(bytes: &[u8]) -> u64
-    ensures { result < modulus }
+    ensures { result < MODULUS }
 {
     let mut n = 1u64;
-    for i in 0..bytes.len() {
-        n = (256 * n + bytes[i] as u64) % MODULUS;
+    for byte in bytes {
+        n = (256 * n + u64::from(*byte)) % MODULUS;
     }
     n
 }
 
-fn least(a: usize, b: usize) -> usize
-    ensures { (result ≤ a) × (result ≤ b) }
+// The reply at the start, and what follows it. Bytes that are no whole reply count as one of kind 0, up to the end.
+fn split_reply(bytes: &[u8]) -> Option<(Part, &[u8])>
+    ensures { IfSome result (λ r. (r.0.digest < MODULUS) × (length r.1.now < length bytes.now)) }
 {
-    if a < b { a } else { b }
+    if bytes.is_empty() {
+        return None;
+    }
+    if bytes.len() < 4 || bytes.len() < records::record_size(bytes) {
+        return Some((Part { kind: 0, digest: 0 }, &[]));
+    }
+    let (reply, rest) = bytes.split_at(records::record_size(bytes));
+    let part = Part {
+        kind: records::number(&bytes[2..4]),
+        digest: digest_of(reply),
+    };
+    Some((part, rest))
 }
 
-// Bytes that are no whole reply count as one of kind 0, up to the end.
-fn cut(end: usize) -> Part
-    ensures { (result.end ≡ end) × (result.digest < modulus) }
-{
-    Part {
-        kind: 0,
-        end: end,
-        digest: 0,
-    }
-}
-
-// The reply at a place.
-fn part_at(bytes: &[u8], at: usize) -> Part
-    requires { at < length bytes.now }
-    ensures { (at < result.end) × (result.end ≤ length bytes.now) × (result.digest < modulus) }
-{
-    let left = bytes.len() - at;
-    if left < 4 {
-        return cut(bytes.len());
-    }
-    let size = records::record_size(&bytes[at..]);
-    if left < size {
-        return cut(bytes.len());
-    }
-    let end = at + size;
-    Part {
-        kind: records::number_at(bytes, at + 2, 2),
-        end: end,
-        digest: digest_of(&bytes[at..end]),
-    }
-}
-
-// Reply by reply; but of replies of `next` only the sum counts, up to the next reply of another kind: a walk is compared as a set.
-fn same_as_sets(ours: &[u8], stored: &[u8]) -> bool {
-    let mut a = 0;
-    let mut b = 0;
-    let mut owed = 0u64;
-    while a < ours.len() {
-        if b == stored.len() {
+// Reply by reply, but of replies of `next` only the sum counts, up to the next reply of another kind: a walk is compared as a set.
+fn same_as_sets(mut ours: &[u8], mut stored: &[u8]) -> bool {
+    let mut owed = 0;
+    while let Some((own, ours_left)) = split_reply(ours) {
+        let Some((wanted, stored_left)) = split_reply(stored) else {
+            return false;
+        };
+        if own.kind != wanted.kind {
             return false;
         }
-        let x = part_at(ours, a);
-        let y = part_at(stored, b);
-        if x.kind != y.kind {
+        if own.kind == NEXT_REPLY {
+            owed = (owed + own.digest + (MODULUS - wanted.digest)) % MODULUS;
+        } else if owed != 0 || own.digest != wanted.digest {
             return false;
         }
-        if x.kind == NEXT_REPLY {
-            owed = (owed + x.digest + (MODULUS - y.digest)) % MODULUS;
-        } else if owed != 0 || x.digest != y.digest {
-            return false;
-        }
-        a = x.end;
-        b = y.end;
+        ours = ours_left;
+        stored = stored_left;
     }
-    owed == 0 && b == stored.len()
+    owed == 0 && stored.is_empty()
 }
 
 // On a fresh store, as the trace program would.
-fn is_answered(input: &[u8], stored: &[u8], sets: bool) -> bool {
-    let mut array = session::array_room();
-    let mut entries = session::entry_room();
-    let mut index = session::index_room();
-    let mut output = output_room();
-    match store::fresh(&mut array, &mut entries, &mut index) {
-        Made::Store(sizes) => {
-            let p = session::serve(
-                &mut array,
-                &mut entries,
-                &mut index,
-                sizes,
-                input,
-                true,
-                &mut output,
-            );
-            let made = p.made;
-            if sets {
-                same_as_sets(&output[0..made], stored)
-            } else {
-                &output[0..made] == stored
-            }
-        }
-        Made::No(_) => false,
-    }
+fn is_answered(input: &[u8], stored: &[u8], method: Method) -> bool {
+    let mut array: [u64; session::ARRAY] = lent::room();
+    let mut entries: [u64; session::ENTRIES] = lent::room();
+    let mut index: [Word; session::INDEX] = lent::room();
+    let mut output: [u8; OUTPUT] = lent::room();
+    let sizes = session::begin(&mut array, &mut entries, &mut index);
+    let done = session::serve(
+        &mut array,
+        &mut entries,
+        &mut index,
+        sizes,
+        input,
+        true,
+        &mut output,
+    );
+    method.same(&output[..done.made], stored)
 }
 
-// Where the part at a place ends: its 32-bit length, and as many bytes, or the end of the file.
-fn part_end(file: &[u8], at: usize) -> usize
-    requires { at + 4 ≤ length file.now }
-    ensures { (at + 4 ≤ result) × (result ≤ length file.now) }
+// The part at the start, a 32-bit length and as many bytes or those that there are, and what follows it.
+fn split_part(file: &[u8]) -> Option<(&[u8], &[u8])>
+    ensures { IfSome result (λ p. length p.1.now < length file.now) }
 {
-    at + 4
-        + least(
-            records::number_at(file, at, 4) as usize,
-            file.len() - at - 4,
-        )
+    let (size, rest) = file.split_first_chunk()?;
+    let size = u32::from_le_bytes(*size) as usize;
+    Some(rest.split_at(size.min(rest.len())))
+}
+
+// The trace at the start, its input and its answers, and what follows it.
+fn split_trace(file: &[u8]) -> Option<(&[u8], &[u8], &[u8])>
+    ensures { IfSome result (λ t. length t.2.now < length file.now) }
+{
+    let (input, rest) = split_part(file)?;
+    let (stored, rest) = split_part(rest)?;
+    Some((input, stored, rest))
 }
 
 // A file that ends within a trace has one that is answered otherwise.
-fn replay(file: &[u8], sets: bool) -> Tally {
-    let mut at = 0;
-    let mut traces = 0u64;
-    let mut otherwise = 0u64;
-    while 8 <= file.len() - at {
-        let middle = part_end(file, at);
-        if file.len() - middle < 4 {
-            break;
+fn replay(file: &[u8], method: Method) -> Tally {
+    let mut rest = file;
+    let mut tally = Tally {
+        traces: 0,
+        otherwise: 0,
+    };
+    while let Some((input, stored, after)) = split_trace(rest) {
+        tally.traces += 1;
+        if !is_answered(input, stored, method) {
+            tally.otherwise += 1;
         }
-        let end = part_end(file, middle);
-        traces += 1;
-        if !is_answered(&file[at + 4..middle], &file[middle + 4..end], sets) {
-            otherwise += 1;
-        }
-        at = end;
+        rest = after;
     }
-    if at < file.len() {
-        otherwise += 1;
+    if !rest.is_empty() {
+        tally.otherwise += 1;
     }
-    Tally {
-        traces: traces,
-        otherwise: otherwise,
-    }
+    tally
 }
 
 fn show(rt: &impl Print, name: &[u8], tally: Tally) -> io::Result<()> {
@@ -200,7 +177,7 @@ fn show(rt: &impl Print, name: &[u8], tally: Tally) -> io::Result<()> {
 }
 
 // A file that does not open is told on standard error; nor does one whose name is no text, since std opens by text.
-fn replay_file(rt: &(impl Files + Print + Eprint), name: &[u8], sets: bool) -> io::Result<()> {
+fn replay_file(rt: &(impl Files + Print + Eprint), name: &[u8], method: Method) -> io::Result<()> {
     let Ok(text) = str::from_utf8(name) else {
         return eprintln!(rt; "a file's name is no text");
     };
@@ -208,13 +185,9 @@ fn replay_file(rt: &(impl Files + Print + Eprint), name: &[u8], sets: bool) -> i
         Ok(file) => file,
         Err(error) => return eprintln!(rt; "{text}: {error}"),
     };
-    let mut bytes = file_room();
+    let mut bytes: [u8; FILE] = lent::room();
     let n = console::read_full(&mut file, &mut bytes);
-    show(rt, name, replay(&bytes[..n], sets))
-}
-
-fn is_sets(how: &[u8]) -> bool {
-    how == b"sets".as_slice()
+    show(rt, name, replay(&bytes[..n], method))
 }
 
 // The argument with this number, at the front of the room, and how long it is; one that there is no room for counts as empty.
@@ -228,27 +201,16 @@ fn argument(rt: &impl Env, number: usize, room: &mut [u8]) -> Option<usize>
     }
 }
 
-// The arguments with these numbers, and whether there is the first. A name that is missing counts as empty.
-fn replay_pair(
-    rt: &(impl Env + Files + Print + Eprint),
-    how: usize,
-    name: usize,
-) -> io::Result<bool> {
-    let mut method = [0u8; 16];
-    let Some(m) = argument(rt, how, &mut method) else {
-        return Ok(false);
-    };
-    let mut path = [0u8; 64];
-    let n = argument(rt, name, &mut path).unwrap_or(0);
-    replay_file(rt, &path[..n], is_sets(&method[..m]))?;
-    Ok(true)
-}
-
+// Pair after pair, until an argument is missing. A name that is missing counts as empty.
 fn main(rt: HostRuntime) -> io::Result<()> {
+    let mut word = [0u8; 16];
+    let mut path = [0u8; 64];
     for pair in 0..usize::MAX / 2 {
-        if !replay_pair(&rt, 2 * pair + 1, 2 * pair + 2)? {
+        let Some(m) = argument(&rt, 2 * pair + 1, &mut word) else {
             break;
-        }
+        };
+        let n = argument(&rt, 2 * pair + 2, &mut path).unwrap_or(0);
+        replay_file(&rt, &path[..n], Method::from(&word[..m]))?;
     }
     Ok(())
 }

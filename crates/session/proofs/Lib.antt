@@ -1,4 +1,3 @@
-pub mod Keeping
 pub mod Tracing
 pub mod Serving
 pub mod Waiting

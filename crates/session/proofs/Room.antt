@@ -1,6 +1,6 @@
 -- A trace's room: its lengths are right, so that a fresh store is made in them, and on it the table is fresh. Assumes nothing.
 use mathlib.Core.Path.{◌≡◌, refl, sym, ap, subst, ◌∙◌}
-use Prim.Native.Nat.{ℕ, ◌-◌}
+use Prim.Native.Nat.{◌-◌}
 use lib.Dec.{lit≤}
 use lib.ListN.{length}
 use Rattle.lent.specs.Lent.{lent_words}
@@ -8,7 +8,6 @@ use Rattle.lent.proofs.Lent.{zeros-sized}
 use Rattle.model.specs.Table.{fresh}
 use Rattle.model.proofs.Kept.{fresh_kept}
 use Rattle.store.specs.declared.Record.{Record}
-use Rattle.store.specs.declared.Made.TheVariants.{Store as Stored, No}
 use Rattle.store.specs.Store.{Slices, store, Lengths, lengths_of, room_of, room_for}
 use Rattle.store.specs.Shape.{RightLengths}
 use Rattle.store.specs.Fresh.{FreshMade}
@@ -16,6 +15,9 @@ use Rattle.store.specs.Written.{written, Sound, table_of}
 use Rattle.store.proofs.Views.{table-written}
 use Rattle.store.proofs.Sound.{right-fair, lengths-written, written-sound}
 use Rattle.session.specs.Room.{trace_room, trace_lengths, trace_store}
+use Rattle.std.specs.Prelude.{Result, Ok, Err}
+use Rattle.std.specs.Result.{IsOk}
+use Rattle.value.specs.declared.refusal.Refusal.{Refusal}
 
 pub trace-right : RightLengths trace_lengths
 trace-right =
@@ -42,18 +44,18 @@ trace-table = table-written trace_lengths fresh
 pub trace-room : room_for trace_store ≡ trace_room
 trace-room = ap room_of (lengths-written trace_lengths fresh trace-right (fresh_kept trace_room (right-fair trace_lengths trace-right)))
 
--- slices that are as long as they should be
-pub record AsLong (s : Slices) : Type 0 where
-  pub array : trace_lengths.array ≡ length s.array
-  pub entries : trace_lengths.entries ≡ length s.entries
-  pub index : trace_lengths.index ≡ length s.index
+-- ---- a fresh store is made in slices of these lengths, and is the one that a trace begins with
+same-lengths : (s : Slices) → length s.array ≡ trace_lengths.array → length s.entries ≡ trace_lengths.entries → length s.index ≡ trace_lengths.index
+    → lengths_of s ≡ trace_lengths
+same-lengths s a e n j = record { array = a j; entries = e j; index = n j }
 
-same-lengths : {s : Slices} → AsLong s → lengths_of s ≡ trace_lengths
-same-lengths l j = record { array = sym l.array j; entries = sym l.entries j; index = sym l.index j }
+module _ (before after : Slices) (a : length before.array ≡ trace_lengths.array) (e : length before.entries ≡ trace_lengths.entries)
+    (n : length before.index ≡ trace_lengths.index) where
+  pub fresh-made : (r : Result Record Refusal) → FreshMade before after r → IsOk r
+  fresh-made (Ok r) f = refl
+  fresh-made (Err x) f = absurd (f.0 (subst RightLengths (sym (same-lengths before a e n)) trace-right))
 
-module _ (before after : Slices) (l : AsLong before) where
-  pub fresh-begins : (r : Record) → FreshMade before after (Stored r) → store after r ≡ trace_store
-  fresh-begins r f = f.1 ∙ ap (λ (n : Lengths). written n fresh) (same-lengths l)
+  pub fresh-begins : (r : Record) → FreshMade before after (Ok r) → store after r ≡ trace_store
+  fresh-begins r f = f.1 ∙ ap (λ (l : Lengths). written l fresh) (same-lengths before a e n)
 
-  pub fresh-comes : (n : ℕ) → FreshMade before after (No n) → ⊥
-  fresh-comes n f = f.0 (subst RightLengths (sym (same-lengths l)) trace-right)
+pub ruleset beginning = (fresh-made, fresh-begins)

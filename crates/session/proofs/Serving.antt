@@ -7,13 +7,14 @@ use Prim.Native.Nat.{ℕ, ◌+◌, zero-le}
 use native.Mathlib.Omega.{arith}
 use lib.ListN.{drop, length-drop}
 use lib.Seq.{drop-append-le, drop-drop}
+use Rattle.std.specs.Prelude.{None, Some, Ok, Err}
 use Rattle.model.specs.Table.{Room}
 use Rattle.store.specs.Store.{Store, room_of, room_for}
 use Rattle.store.specs.Written.{Sound, table_of}
 use Rattle.table.specs.Stays.{Stays}
 use Rattle.records.specs.declared.Request.{Request}
-use Rattle.records.specs.declared.Reading.TheVariants.{End, Request as Asks, Fault}
-use Rattle.records.specs.Requests.{record_size, reading}
+use Rattle.records.specs.declared.Fault.{Fault}
+use Rattle.records.specs.Requests.{fault_number, record_size, reading}
 use Rattle.records.proofs.Readings.{whole-stays, request-fits, request-decodes}
 use Rattle.replies.specs.declared.Reply.{Reply}
 use Rattle.replies.specs.declared.Reply.TheVariants.{Fault as Faults}
@@ -45,7 +46,7 @@ decided-stays input more =
     (λ e. let all : input ++ more ≡ input = ap (λ (l : List ℕ). input ++ l) e ∙ append-nil input in (ap reading all, ap record_size all))
 
 module _ (s : Store) (input : List ℕ) where
-  pub served-end : reading input ≡ End → Served s s (Decided input) input [] 0 true
+  pub served-end : reading input ≡ Ok None → Served s s (Decided input) input [] 0 true
   served-end r =
       record {
         takes = zero-le;
@@ -53,16 +54,16 @@ module _ (s : Store) (input : List ℕ) where
         trace = λ S more d. trace-end _ _ (input ++ more) ((decided-stays input more d).0 ∙ r);
       }
 
-  pub served-fault : (k : ℕ) → reading input ≡ Fault k → Served s s (Decided input) input (reply_bytes (Faults k)) 0 true
-  served-fault k r =
+  pub served-fault : (x : Fault) → reading input ≡ Err x → Served s s (Decided input) input (reply_bytes (Faults (fault_number x))) 0 true
+  served-fault x r =
       record {
         takes = zero-le;
         kept = stays_same;
         trace =
-            λ S more d. trace-fault _ _ (input ++ more) k ((decided-stays input more d).0 ∙ r) ∙ sym (append-nil (reply_bytes (Faults k)));
+            λ S more d. trace-fault _ _ (input ++ more) x ((decided-stays input more d).0 ∙ r) ∙ sym (append-nil (reply_bytes (Faults (fault_number x))));
       }
 
-  pub served-request : {a : Store} {y : Reply} (q : Request) → reading input ≡ Asks q → Answers s q a y
+  pub served-request : {a : Store} {y : Reply} (q : Request) → reading input ≡ Ok (Some q) → Answers s q a y
       → Served s a (Decided input) input (reply_bytes y) (record_size input) false
   served-request {a} {y} q r p =
       record {

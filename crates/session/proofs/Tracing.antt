@@ -4,11 +4,11 @@ use mathlib.Core.List.{List, [], ◌++◌}
 use Prim.Native.Nat.{ℕ, zero, suc, ◌≤◌}
 use native.Mathlib.Omega.{arith}
 use lib.ListN.{length, drop, length-drop}
+use Rattle.std.specs.Prelude.{Option, None, Some, Result, Ok, Err}
 use Rattle.model.specs.Table.{Room, Table}
 use Rattle.records.specs.declared.Request.{Request}
-use Rattle.records.specs.declared.Reading.{Reading}
-use Rattle.records.specs.declared.Reading.TheVariants.{End, Request as Asks, Fault}
-use Rattle.records.specs.Requests.{record_size, reading}
+use Rattle.records.specs.declared.Fault.{Fault}
+use Rattle.records.specs.Requests.{fault_number, record_size, reading}
 use Rattle.records.proofs.Ways.{reads_end}
 use Rattle.records.proofs.Readings.{request-fits}
 use Rattle.replies.specs.declared.Reply.TheVariants.{Fault as Faults}
@@ -17,15 +17,15 @@ use Rattle.answers.specs.Answers.{reply_of, table_after}
 use Rattle.session.specs.Trace.{on_reading, traced, trace_of}
 
 -- what is left after a request is shorter
-left-fits : (n : ℕ) (bs : List ℕ) (q : Request) → reading bs ≡ Asks q → length bs ≤ suc n → length (drop (record_size bs) bs) ≤ n
+left-fits : (n : ℕ) (bs : List ℕ) (q : Request) → reading bs ≡ Ok (Some q) → length bs ≤ suc n → length (drop (record_size bs) bs) ≤ n
 left-fits n bs q r h = omega (arith, length-drop (record_size bs) bs, request-fits bs q r)
 
 -- two ways on that agree wherever a request is read
-agree : (e : List ℕ) (f : ℕ → List ℕ) (g k : Request → List ℕ) (r : Reading) → ((q : Request) → r ≡ Asks q → g q ≡ k q)
+agree : (e : List ℕ) (f : Fault → List ℕ) (g k : Request → List ℕ) (r : Result (Option Request) Fault) → ((q : Request) → r ≡ Ok (Some q) → g q ≡ k q)
     → on_reading r e f g ≡ on_reading r e f k
-agree e f g k End same = refl
-agree e f g k (Fault n) same = refl
-agree e f g k (Asks q) same = same q refl
+agree e f g k (Ok None) same = refl
+agree e f g k (Err x) same = refl
+agree e f g k (Ok (Some q)) same = same q refl
 
 pub fuel : (n m : ℕ) (room : Room) (t : Table) (bs : List ℕ) → length bs ≤ n → length bs ≤ m → traced n room t bs ≡ traced m room t bs
 unfolding traced
@@ -46,15 +46,15 @@ module _ (room : Room) (t : Table) (bs : List ℕ) where
   step : trace_of room t bs ≡ traced (suc (length bs)) room t bs
   step = sym (traced-is (suc (length bs)) room t bs (omega arith))
 
-  pub trace-end : reading bs ≡ End → trace_of room t bs ≡ []
+  pub trace-end : reading bs ≡ Ok None → trace_of room t bs ≡ []
   unfolding traced
   trace-end r = step ∙ rw r
 
-  pub trace-fault : (k : ℕ) → reading bs ≡ Fault k → trace_of room t bs ≡ reply_bytes (Faults k)
+  pub trace-fault : (x : Fault) → reading bs ≡ Err x → trace_of room t bs ≡ reply_bytes (Faults (fault_number x))
   unfolding traced
-  trace-fault k r = step ∙ rw r
+  trace-fault x r = step ∙ rw r
 
-  pub trace-request : (q : Request) → reading bs ≡ Asks q
+  pub trace-request : (q : Request) → reading bs ≡ Ok (Some q)
       → trace_of room t bs ≡ reply_bytes (reply_of room t q) ++ trace_of room (table_after room t q) (drop (record_size bs) bs)
   unfolding traced
   trace-request q r =

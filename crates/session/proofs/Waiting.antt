@@ -9,6 +9,7 @@ use lib.Dec.{ltb}
 use lib.ListN.{length, drop, length-append, length-drop}
 use lib.Seq.{length-take-le}
 use borrow.Author.Tests.{leb-false, ltb-true, ltb-false}
+use Rattle.std.specs.Prelude.{Some, Ok}
 use Rattle.value.proofs.Cases.{caseb, clash}
 use Rattle.model.specs.Entries.{NextValue, found, last, not_found}
 use Rattle.model.specs.Table.{Room, Table, next_of}
@@ -16,7 +17,6 @@ use Rattle.store.specs.Store.{Store}
 use Rattle.store.specs.Written.{Sound}
 use Rattle.reads.specs.Reads.{in_words}
 use Rattle.records.specs.declared.Request.{Request}
-use Rattle.records.specs.declared.Reading.TheVariants.{Request as Asks}
 use Rattle.records.specs.Bytes.{AllBytes, value_in}
 use Rattle.records.specs.Requests.{record_size, longest_record, kind_in, body_in, reading, is_whole}
 use Rattle.records.proofs.Numbers.{length-bytes, drop-bytes, number-part}
@@ -41,7 +41,7 @@ module _ (room : Room) (t : Table) where
   short-body k bs q (is-next l d) = omega (arith, short-step (next_of t (value_in 0 bs)))
   short-body k bs q (is-reserve l) = simp (length-append, length-bytes) (omega arith)
 
-  pub reply-short : (bs : List ℕ) (q : Request) → reading bs ≡ Asks q → length (reply_bytes (reply_of room t q)) ≤ 3 * record_size bs
+  pub reply-short : (bs : List ℕ) (q : Request) → reading bs ≡ Ok (Some q) → length (reply_bytes (reply_of room t q)) ≤ 3 * record_size bs
   reply-short bs q r =
       let a = asked bs q r in
       let rest : length (body_in bs) ≡ record_size bs - 4 =

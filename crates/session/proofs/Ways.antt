@@ -5,13 +5,14 @@ use mathlib.Core.List.{List, [], append-nil}
 use Prim.Native.Nat.{ℕ}
 use native.Mathlib.Omega.{arith}
 use lib.ListN.{length, take}
+use Rattle.std.specs.Prelude.{None, Some, Ok, Err}
 use Rattle.value.proofs.Cases.{clash}
 use Rattle.store.specs.declared.Record.{Record}
 use Rattle.store.specs.Store.{Slices, Store, store, room_for}
 use Rattle.store.specs.Written.{table_of}
 use Rattle.records.specs.declared.Request.{Request}
-use Rattle.records.specs.declared.Reading.TheVariants.{End, Request as Asks, Fault}
-use Rattle.records.specs.Requests.{record_size, reading}
+use Rattle.records.specs.declared.Fault.{Fault}
+use Rattle.records.specs.Requests.{fault_number, record_size, reading}
 use Rattle.records.proofs.Readings.{request-fits, request-decodes}
 use Rattle.replies.specs.declared.Reply.{Reply}
 use Rattle.replies.specs.declared.Reply.TheVariants.{Fault as Faults}
@@ -36,14 +37,14 @@ abbrev pub Promises : Store → Slices → List ℕ → List ℕ → ℕ → Lis
 Promises s a input was at after r = ServedInto s a (Decided input) input was at after r × Paced s at r
 
 module _ {s : Store} {input was : List ℕ} {at : ℕ} where
-  pub way_end : reading input ≡ End → Promises s s.slices input was at was (progress s.sizes 0 at true)
+  pub way_end : reading input ≡ Ok None → Promises s s.slices input was at was (progress s.sizes 0 at true)
   way_end r = (([], appends-none was at, served-end s input r), paced-stopped _ refl)
 
-  pub way-fault : {after : List ℕ} {end : ℕ} (k : ℕ) → reading input ≡ Fault k → Appends was at (reply_bytes (Faults k)) after end
+  pub way-fault : {after : List ℕ} {end : ℕ} (x : Fault) → reading input ≡ Err x → Appends was at (reply_bytes (Faults (fault_number x))) after end
       → Promises s s.slices input was at after (progress s.sizes 0 end true)
-  way-fault k r w = ((reply_bytes (Faults k), w, served-fault s input k r), paced-stopped _ refl)
+  way-fault x r w = ((reply_bytes (Faults (fault_number x)), w, served-fault s input x r), paced-stopped _ refl)
 
-  pub way-request : {a : Slices} {sizes : Record} {y : Reply} {size : ℕ} {after : List ℕ} {end : ℕ} (q : Request) → reading input ≡ Asks q
+  pub way-request : {a : Slices} {sizes : Record} {y : Reply} {size : ℕ} {after : List ℕ} {end : ℕ} (q : Request) → reading input ≡ Ok (Some q)
       → Answers s q (store a sizes) y → size ≡ record_size input → Appends was at (reply_bytes y) after end
       → Promises s a input was at after (progress sizes size end false)
   way-request {y = y} q r p e w =

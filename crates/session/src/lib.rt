@@ -5,22 +5,22 @@
 ghost use Rattle.std.specs.Prelude.{◌≡◌, ◌+◌, ◌-◌, ◌≤◌, length, take, drop};
 ghost use Rattle.store.specs.Store.{slices, store_of};
 ghost use Rattle.replies.specs.Replies.{longest};
-ghost use Rattle.session.specs.Room.{trace_lengths};
+ghost use Rattle.session.specs.Room.{trace_store};
 ghost use Rattle.session.specs.Served.{Decided, Further, ServedInto, Paced, Waits};
 
+use answers::Answered;
 use index::Word;
-use records::Reading;
 use replies::Reply;
 use store::Record;
 
 // The words of a trace's room, a = 1,024 values and e = 512 entries, and the least index for them: specs/Room.antt says why so many.
-const ARRAY: usize = 2048;
+pub const ARRAY: usize = 2048;
 
-const ENTRIES: usize = 2048;
+pub const ENTRIES: usize = 2048;
 
-const INDEX: usize = 1024;
+pub const INDEX: usize = 1024;
 
-// What was taken of the input and made of output, and whether the trace has ended.
+// What was taken of the input and made of output, and whether the trace has ended. All of it holds whether it has ended or not.
 #[derive(Clone, Copy)]
 pub struct Progress {
     pub sizes: Record,
@@ -29,23 +29,16 @@ pub struct Progress {
     pub stopped: bool,
 }
 
-// The slices of a trace's store. Each contract gives only the length, which is what makes the room.
-pub fn array_room() -> [u64; ARRAY]
-    ensures { trace_lengths.array ≡ length result }
+// The fresh store that a trace begins with.
+#[tactic(auto, using(crate::proofs::Room::beginning))]
+pub fn begin(
+    array: &mut [u64; ARRAY],
+    entries: &mut [u64; ENTRIES],
+    index: &mut [Word; INDEX],
+) -> Record
+    ensures { store_of array.new entries.new index.new result ≡ trace_store }
 {
-    [0; ARRAY]
-}
-
-pub fn entry_room() -> [u64; ENTRIES]
-    ensures { trace_lengths.entries ≡ length result }
-{
-    [0; ENTRIES]
-}
-
-pub fn index_room() -> [Word; INDEX]
-    ensures { trace_lengths.index ≡ length result }
-{
-    [0; INDEX]
+    store::fresh(array, entries, index).unwrap()
 }
 
 // One record, where the input decides it or has ended.
@@ -63,24 +56,22 @@ fn serve_record(
     ensures paced { Paced (store_of array.old entries.old index.old sizes) made result }
 {
     match records::read(input) {
-        Reading::End => Progress {
-            sizes: sizes,
+        Ok(None) => Progress {
+            sizes,
             taken: 0,
-            made: made,
+            made,
             stopped: true,
         },
-        Reading::Fault(n) => Progress {
-            sizes: sizes,
+        Err(fault) => Progress {
+            sizes,
             taken: 0,
-            made: replies::write(Reply::Fault(n), output, made),
+            made: replies::write(Reply::Fault(u8::from(fault)), output, made),
             stopped: true,
         },
-        Reading::Request(q) => {
-            let a = answers::answer(array, entries, index, sizes, q);
-            let reply = a.reply;
-            let after = a.sizes;
+        Ok(Some(request)) => {
+            let Answered { reply, sizes } = answers::answer(array, entries, index, sizes, request);
             Progress {
-                sizes: after,
+                sizes,
                 taken: records::record_size(input),
                 made: replies::write(reply, output, made),
                 stopped: false,
@@ -102,32 +93,24 @@ pub fn serve(
     ensures served_into { ServedInto (store_of array.old entries.old index.old sizes) (slices array.new entries.new index.new) (Further last) input.now output.old 0 output.new result }
     ensures waits { Waits (store_of array.old entries.old index.old sizes) input.now last output.old result }
 {
-    let mut now = sizes;
-    let mut taken = 0;
-    let mut made = 0;
-    let mut stopped = false;
-    while replies::LONGEST <= output.len() - made {
-        if !last {
-            if !records::is_whole(&input[taken..]) {
-                break;
-            }
-        }
-        let p = serve_record(array, entries, index, now, &input[taken..], output, made);
-        let after = p.sizes;
-        now = after;
-        taken += p.taken;
-        made = p.made;
-        if p.stopped {
-            stopped = true;
-            break;
-        }
+    let mut done = Progress {
+        sizes,
+        taken: 0,
+        made: 0,
+        stopped: false,
+    };
+    while !done.stopped
+        && replies::LONGEST <= output.len() - done.made
+        && (last || records::is_whole(&input[done.taken..]))
+    {
+        let left = &input[done.taken..];
+        let next = serve_record(array, entries, index, done.sizes, left, output, done.made);
+        done = Progress {
+            taken: done.taken + next.taken,
+            ..next
+        };
     }
-    Progress {
-        sizes: now,
-        taken: taken,
-        made: made,
-        stopped: stopped,
-    }
+    done
 }
 
 // Moves the bytes from a place up to another to the start, and answers how many they are.
@@ -135,9 +118,6 @@ pub fn keep(bytes: &mut [u8], from: usize, to: usize) -> usize
     requires { (from ≤ to) × (to ≤ length bytes.old) }
     ensures { (result ≡ to - from) × (take result bytes.new ≡ take result (drop from bytes.old)) }
 {
-    let n = to - from;
-    for i in 0..n {
-        bytes[i] = bytes[from + i];
-    }
-    n
+    bytes.copy_within(from..to, 0);
+    to - from
 }

@@ -2,6 +2,7 @@
 use Rattle.std.specs.Prelude.{List, ℕ, ◌/◌, length}
 use Rattle.model.specs.Table.{Room}
 use Rattle.store.specs.declared.Record.{Record}
+use Rattle.store.specs.declared.View.{View}
 use Rattle.store.specs.Limits.{class_counts}
 
 pub record Slices : Type 0 where
@@ -22,6 +23,10 @@ store l r = record { slices = l; sizes = r }
 -- the store in these array words, entry words and index words
 abbrev pub store_of : List ℕ → List ℕ → List ℕ → Record → Store
 store_of aw ew iw r = store (slices aw ew iw) r
+
+-- the store that a program looks at
+abbrev pub seen : View → Store
+seen v = store_of v.array.now v.entries.now v.index.now v.sizes
 
 -- how many words each slice has
 pub record Lengths : Type 0 where

@@ -3,20 +3,20 @@
 #![tactic(auto)]
 
 ghost use Rattle.std.specs.Prelude.{◌≡◌, ◌*◌, ◌<◌, ◌≤◌, length};
-ghost use Rattle.key.specs.declared.CanonicalKey.TheVariants.{Key};
 ghost use Rattle.key.specs.Canonical.{canonical_key};
 ghost use Rattle.lent.specs.Says.{Says};
 ghost use Rattle.model.specs.Table.{within, place_of};
-ghost use Rattle.model.specs.WellFormed.{Power, ZeroOrPower};
-ghost use Rattle.store.specs.Store.{slices, store_of, lengths};
+ghost use Rattle.model.specs.WellFormed.{ZeroOrPower};
+ghost use Rattle.store.specs.Store.{slices, store_of, lengths, seen};
 ghost use Rattle.store.specs.Shape.{RightLengths, Shape, Shaped};
 ghost use Rattle.store.specs.Written.{Sound};
 ghost use Rattle.store.specs.Clauses.{AllCanonical, AllOutside, Clauses};
 ghost use Rattle.store.specs.Fresh.{FreshMade};
 
 use index::Word;
-use key::{ArrayIndex, CanonicalKey};
-use value::Words;
+use lent::Entries;
+use std::fmt;
+use value::{Refusal, Words};
 
 // The limits of lent room, in values, entries and index words. The same numbers stand in specs/Limits.antt.
 pub const ARRAY_LIMIT: usize = 65536;
@@ -26,30 +26,53 @@ pub const ENTRY_LIMIT: usize = 32768;
 pub const INDEX_LIMIT: usize = 65536;
 
 // What a store's words do not say themselves: array size A, entry allowance M and entry count E.
-#[derive(Clone, Copy)]
+#[derive(Clone, Copy, Debug, PartialEq, Eq)]
 pub struct Record {
     pub size: usize,
     pub allowance: usize,
     pub count: usize,
 }
 
-#[derive(Clone, Copy)]
-pub enum Made {
-    Store(Record),
-    No(u8),
+impl Record {
+    // Of a fresh store.
+    pub const FRESH: Record = Record {
+        size: 0,
+        allowance: 0,
+        count: 0,
+    };
 }
 
-// Whether a number is a power of two: the one before it has fewer significant bits.
-fn is_power(n: usize) -> bool
-    ensures { Says result (Power n) }
-{
-    if n == 0 {
-        return false;
+// A, M and E.
+impl fmt::Display for Record {
+    fn fmt<W: fmt::Write>(&self, f: &mut fmt::Formatter<W>) -> fmt::Result {
+        write!(f, "{} {} {}", self.size, self.allowance, self.count)
     }
-    let m = n as u64;
-    key::highest_bit(m) != key::highest_bit(m - 1)
 }
 
+// A store to look at: three lent slices, and the record that goes with them.
+#[derive(Clone, Copy)]
+pub struct View<'a> {
+    pub array: &'a [u64],
+    pub entries: &'a [u64],
+    pub index: &'a [Word],
+    pub sizes: Record,
+}
+
+impl<'a> View<'a> {
+    // The entries in use.
+    pub fn in_use(&self) -> Entries<'a>
+        requires { Shaped (seen self.now) }
+        ensures words { result.words.now ≡ self.now.entries.now }
+        ensures count { result.count ≡ self.now.sizes.count }
+    {
+        Entries {
+            words: self.entries,
+            count: self.sizes.count,
+        }
+    }
+}
+
+// Three lengths and no View: `fresh` has no record yet.
 fn right_lengths(array: usize, entries: usize, index: usize) -> bool
     ensures { Says result (RightLengths (lengths array entries index)) }
 {
@@ -74,7 +97,7 @@ fn right_lengths(array: usize, entries: usize, index: usize) -> bool
     if index < 2 * (entries / 4) {
         return false;
     }
-    is_power(index)
+    index.is_power_of_two()
 }
 
 // Whether the slices' lengths and the record have the right shape: what a call that is passed a record tests first.
@@ -93,77 +116,68 @@ pub fn right_shape(array: usize, entries: usize, index: usize, sizes: Record) ->
     right_lengths(array, entries, index)
 }
 
+pub fn is_shaped(view: &View) -> bool
+    ensures { Says result (Shaped (seen view.now)) }
+{
+    right_shape(
+        view.array.len(),
+        view.entries.len(),
+        view.index.len(),
+        view.sizes,
+    )
+}
+
 // Whether a key has an array index below a size.
+#[tactic(auto, unfolding(model::specs::Table::within))]
 pub fn is_within(key: Words, size: usize) -> bool
     ensures { result ≡ within size key }
 {
-    match key::array_index(key) {
-        ArrayIndex::At(i) => i < size as u64,
-        ArrayIndex::Nothing => false,
-    }
+    key::array_index(key).is_some_and(|i| i < size as u64)
 }
 
 // The place in the array of a key that has an array index.
 pub fn place_of(key: Words) -> usize
     ensures { result ≡ place_of key }
 {
-    match key::array_index(key) {
-        ArrayIndex::At(i) => i as usize,
-        ArrayIndex::Nothing => 0,
-    }
+    key::array_index(key).map_or(0, |i| i as usize)
 }
 
 fn is_canonical(key: Words) -> bool
-    ensures { Says result (canonical_key key ≡ Key key) }
+    ensures { Says result (canonical_key key ≡ Ok key) }
 {
-    match key::canonical_key(key) {
-        CanonicalKey::Key(k) => value::are_same(k, key),
-        CanonicalKey::No(_) => false,
-    }
+    key::canonical_key(key) == Ok(key)
 }
 
-fn all_canonical(entries: &[u64], count: usize) -> bool
-    requires { 4 * count ≤ length entries.now }
-    ensures { Says result (AllCanonical entries.now count) }
+fn all_canonical(entries: &Entries) -> bool
+    ensures { Says result (AllCanonical entries.now.words.now entries.now.count) }
 {
-    for i in 0..count {
-        if !is_canonical(lent::value_at(entries, 2 * i)) {
-            return false;
-        }
-    }
-    true
+    (0..entries.count).all(|i| is_canonical(entries.key(i)))
 }
 
 // Whether no entry's key has an array index below A.
-fn all_outside(entries: &[u64], count: usize, size: usize) -> bool
-    requires { 4 * count ≤ length entries.now }
-    ensures { Says result (AllOutside entries.now count size) }
+fn all_outside(entries: &Entries, size: usize) -> bool
+    ensures { Says result (AllOutside entries.now.words.now entries.now.count size) }
 {
-    for i in 0..count {
-        if is_within(lent::value_at(entries, 2 * i), size) {
-            return false;
-        }
-    }
-    true
+    (0..entries.count).all(|i| !is_within(entries.key(i), size))
 }
 
 fn zero_or_power(n: usize) -> bool
     ensures { Says result (ZeroOrPower n) }
 {
-    if n == 0 {
-        return true;
-    }
-    is_power(n)
+    n == 0 || n.is_power_of_two()
 }
 
 // Whether the clauses after the shape hold, in the order in which a fault finder would name them, but for the repeated key: that one goes by
-// the index.
+// the index. The slices are parameters of their own: of those the check knows that each word fits in its type.
 fn clauses_hold(array: &[u64], entries: &[u64], index: &[Word], sizes: Record) -> bool
     requires { Shaped (store_of array.now entries.now index.now sizes) }
     ensures { Says result (Clauses (store_of array.now entries.now index.now sizes)) }
 {
     let size = sizes.size;
-    let count = sizes.count;
+    let in_use = Entries {
+        words: entries,
+        count: sizes.count,
+    };
     if !zero_or_power(size) {
         return false;
     }
@@ -173,44 +187,40 @@ fn clauses_hold(array: &[u64], entries: &[u64], index: &[Word], sizes: Record) -
     if !lent::all_decode(entries) {
         return false;
     }
-    if !all_canonical(entries, count) {
+    if !all_canonical(&in_use) {
         return false;
     }
-    if !all_outside(entries, count, size) {
+    if !all_outside(&in_use, size) {
         return false;
     }
     if !lent::all_zero(array, 2 * size) {
         return false;
     }
-    if !lent::all_zero(entries, 4 * count) {
+    if !lent::all_zero(entries, 4 * sizes.count) {
         return false;
     }
-    index::is_right(entries, count, index)
+    index::is_right(&in_use, index)
 }
 
 // Whether a store is sound, whatever it holds.
-pub fn check(array: &[u64], entries: &[u64], index: &[Word], sizes: Record) -> bool
-    ensures { Says result (Sound (store_of array.now entries.now index.now sizes)) }
+pub fn check(view: &View) -> bool
+    ensures { Says result (Sound (seen view.now)) }
 {
-    if !right_shape(array.len(), entries.len(), index.len(), sizes) {
+    if !is_shaped(view) {
         return false;
     }
-    clauses_hold(array, entries, index, sizes)
+    clauses_hold(view.array, view.entries, view.index, view.sizes)
 }
 
 // A fresh store in lent slices.
-pub fn fresh(array: &mut [u64], entries: &mut [u64], index: &mut [Word]) -> Made
+pub fn fresh(array: &mut [u64], entries: &mut [u64], index: &mut [Word]) -> Result<Record, Refusal>
     ensures { FreshMade (slices array.old entries.old index.old) (slices array.new entries.new index.new) result }
 {
     if !right_lengths(array.len(), entries.len(), index.len()) {
-        return Made::No(key::WRONG_SHAPE);
+        return Err(Refusal::WrongShape);
     }
-    lent::clear(array);
-    lent::clear(entries);
-    index::clear(index);
-    Made::Store(Record {
-        size: 0,
-        allowance: 0,
-        count: 0,
-    })
+    array.fill(0);
+    entries.fill(0);
+    index.fill(0);
+    Ok(Record::FRESH)
 }

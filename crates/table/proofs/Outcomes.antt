@@ -12,14 +12,14 @@ use Rattle.store.specs.Store.{Store, lengths_of, room_for}
 use Rattle.store.specs.Written.{Sound, table_of}
 use Rattle.store.proofs.Views.{table-written}
 use Rattle.store.proofs.Sound.{lengths-written, sound-formed, sound-shaped}
-use Rattle.reads.specs.declared.GotWords.{GotWords}
-use Rattle.reads.specs.declared.GotWords.TheVariants.{Value}
 use Rattle.reads.specs.Reads.{GetAnswers}
 use Rattle.reads.proofs.Unique.{got_words, get-answered}
 use Rattle.table.specs.Stays.{Stays}
 use Rattle.writes.specs.Writes.{Left, RoomOnly, SetNumbers, Promised, set_outcome, reserve_outcome}
+use Rattle.std.specs.Prelude.{Result, Ok}
+use Rattle.value.specs.declared.refusal.Refusal.{Refusal}
 
-pub is_get : {s : Store} → Sound s → (key : Words) → Decodes key → GetAnswers s key (Value (get_of (table_of s) key))
+pub is_get : {s : Store} → Sound s → (key : Words) → Decodes key → GetAnswers s key (Ok (get_of (table_of s) key))
 is_get {s = s} S key d = (sound-shaped s S, d, λ S. refl)
 
 -- ---- the calls that write
@@ -33,7 +33,7 @@ module _ {s : Store} {o : Outcome} {Numbers : ℕ → Type 0} {l : Left} (S : So
   pub table_is : table_of l.store ≡ o.table
   table_is = ap (λ (x : Left). table_of x.store) (p.does.sound S) ∙ table-written (lengths_of s.slices) o.table
 
-  pub get_left : Sound l.store → (key : Words) (a : GotWords) → GetAnswers l.store key a → a ≡ got_words key (get_of o.table key)
+  pub get_left : Sound l.store → (key : Words) (a : Result Words Refusal) → GetAnswers l.store key a → a ≡ got_words key (get_of o.table key)
   get_left L key a q = get-answered _ key a q L ∙ ap (λ (t : Table). got_words key (get_of t key)) table_is
 
   -- after any refusal, whatever words were passed

@@ -2,45 +2,22 @@
 // read as a Value. `length` and `reserve` take and answer no Value: reads::length and writes::reserve. Every call is total.
 #![tactic(auto)]
 
-ghost use Rattle.store.specs.Store.{slices, store_of};
+ghost use Rattle.store.specs.Store.{slices, store_of, seen};
 ghost use Rattle.table.specs.Values.{GetValue, SetValue, NextOfValue};
 
 use index::Word;
-use reads::{GotWords, NextWords};
-use store::Record;
-use value::Value;
-use writes::SetWords;
+use reads::Next;
+use store::{Record, View};
+use value::{Refusal, Value, Words};
 
-#[derive(Clone, Copy)]
-pub enum Got {
-    Value(Value),
-    No(u8),
-}
-
-#[derive(Clone, Copy)]
-pub enum Stored {
-    // the previous value, and the record after the call
-    Done(Value, Record),
-    No(u8),
-}
-
-#[derive(Clone, Copy)]
-pub enum NextValue {
-    Found(Value, Value),
-    Last,
-    NotFound,
-    No(u8),
-}
-
-pub fn get(array: &[u64], entries: &[u64], index: &[Word], sizes: Record, key: Value) -> Got
-    ensures { GetValue (store_of array.now entries.now index.now sizes) key result }
+pub fn get(view: &View, key: Value) -> Result<Value, Refusal>
+    ensures { GetValue (seen view.now) key result }
 {
-    match reads::get_words(array, entries, index, sizes, value::encode(key)) {
-        GotWords::Value(v) => Got::Value(value::value_of(v)),
-        GotWords::No(n) => Got::No(n),
-    }
+    let found = reads::get_words(view, Words::from(key))?;
+    Ok(Value::or_nil(found))
 }
 
+// The previous value, and the record after the call.
 pub fn set(
     array: &mut [u64],
     entries: &mut [u64],
@@ -48,29 +25,26 @@ pub fn set(
     sizes: Record,
     key: Value,
     v: Value,
-) -> Stored
+) -> Result<(Value, Record), Refusal>
     ensures { SetValue (store_of array.old entries.old index.old sizes) key v (slices array.new entries.new index.new) result }
 {
-    match writes::set_words(
+    let (previous, after) = writes::set_words(
         array,
         entries,
         index,
         sizes,
-        value::encode(key),
-        value::encode(v),
-    ) {
-        SetWords::Done(previous, after) => Stored::Done(value::value_of(previous), after),
-        SetWords::No(n) => Stored::No(n),
-    }
+        Words::from(key),
+        Words::from(v),
+    )?;
+    Ok((Value::or_nil(previous), after))
 }
 
-pub fn next(array: &[u64], entries: &[u64], index: &[Word], sizes: Record, key: Value) -> NextValue
-    ensures { NextOfValue (store_of array.now entries.now index.now sizes) key result }
+pub fn next(view: &View, key: Value) -> Result<Next<Value>, Refusal>
+    ensures { NextOfValue (seen view.now) key result }
 {
-    match reads::next_words(array, entries, index, sizes, value::encode(key)) {
-        NextWords::Found(k, v) => NextValue::Found(value::value_of(k), value::value_of(v)),
-        NextWords::Last => NextValue::Last,
-        NextWords::NotFound => NextValue::NotFound,
-        NextWords::No(n) => NextValue::No(n),
+    match reads::next_words(view, Words::from(key))? {
+        Next::Found(k, v) => Ok(Next::Found(Value::or_nil(k), Value::or_nil(v))),
+        Next::Last => Ok(Next::Last),
+        Next::NotFound => Ok(Next::NotFound),
     }
 }

@@ -2,18 +2,21 @@
 // memory. What the replies are is session's; here bytes are moved.
 #![tactic(auto)]
 
-ghost use Rattle.std.specs.Prelude.{◌≡◌, ◌+◌, ◌<◌, ◌≤◌, length, take};
+ghost use Rattle.std.specs.Prelude.{◌≡◌, ◌<◌, ◌≤◌, length, take, drop, OnOk};
+ghost use Rattle.std.specs.Io.KnownBytes.{Appends, Consumes};
 ghost use Rattle.store.specs.Store.{store_of};
 ghost use Rattle.store.specs.Written.{Sound};
 ghost use Rattle.records.specs.Requests.{longest_record};
 ghost use Rattle.session.specs.Room.{trace_store};
 ghost use Rattle.trace.specs.Rooms.{input_room, output_room};
 ghost use Rattle.trace.specs.Turn.{Answered};
-ghost use Rattle.trace.specs.Run.{Run};
+ghost use Rattle.trace.specs.Run.{streams, Run};
 
 use index::Word;
+use session::Progress;
+use std::io;
 use std::io::{Read, Write};
-use store::{Made, Record};
+use store::Record;
 
 // The bytes of the input's room, more than the longest record has, and of the output's: three times the input and one longest reply, since a
 // reply has at most three times its request's bytes. So a turn leaves less than a record (session's `Waits`), and there is always room to
@@ -22,72 +25,39 @@ const INPUT: usize = 131072;
 
 const OUTPUT: usize = 3 * INPUT + replies::LONGEST;
 
-// What a turn did: how many bytes came, were taken as records and were handed on to be written; whether the trace is over; and whether all
-// was written.
+// What a turn did: how many bytes came, and what was taken of the input and made of output.
 #[derive(Clone, Copy)]
 struct Turned {
-    sizes: Record,
     got: usize,
-    taken: usize,
-    made: usize,
-    stopped: bool,
-    written: bool,
+    progress: Progress,
 }
 
-#[derive(Clone, Copy)]
-struct Sent {
-    made: usize,
-    all: bool,
-}
-
-// Why a run ended: the trace is over, by the end of the input or a fault; a write failed; or the turns are used up.
+// Why a run ended that could write: the trace is over, by the end of the input or a fault; or the turns are used up.
 #[derive(Clone, Copy)]
 enum Ended {
     Stopped,
-    Unwritten,
     Spent,
 }
 
-// Each contract gives only the length, which lending a part needs.
-fn input_room() -> [u8; INPUT]
-    ensures { input_room ≡ length result }
+// A read that fails counts as the end of the input. So would one into no room.
+fn read_some<R: Read>(stdin: &mut R, room: &mut [u8]) -> usize
+    requires { 0 < length room.old }
+    ensures within { result ≤ length room.new }
+    ensures bytes { Consumes (R.remaining stdin.old) (R.remaining stdin.new) (take result room.new) }
 {
-    [0; INPUT]
+    stdin.read(room).unwrap_or(0)
 }
 
-fn output_room() -> [u8; OUTPUT]
-    ensures { output_room ≡ length result }
+fn send<W: Write>(stdout: &mut W, bytes: &[u8]) -> io::Result<()>
+    ensures { OnOk result (Appends (W.contents stdout.old) (W.contents stdout.new) bytes.now) }
 {
-    [0; OUTPUT]
+    stdout.write_all(bytes)?;
+    stdout.flush()
 }
 
-// A read that fails counts as the end of the input. So would one into no room. How much is held is passed for the contract alone: it says which
-// part of the input's room is read into.
-fn read_some<R: Read>(stdin: &mut R, room: &mut [u8], held: usize) -> usize
-    requires { (0 < length room.old) × (held + length room.old ≡ input_room) }
-    ensures { result ≤ length room.old }
-{
-    match stdin.read(room) {
-        Ok(got) => got,
-        Err(_) => 0,
-    }
-}
-
-// Writes these bytes, the first of the output, which is lent for the contract alone, and flushes them.
-fn send<W: Write>(stdout: &mut W, bytes: &[u8], output: &[u8]) -> Sent
-    requires { bytes.now ≡ take (length bytes.now) output.now }
-    ensures { result.made ≡ length bytes.now }
-{
-    Sent {
-        made: bytes.len(),
-        all: stdout.write_all(bytes).is_ok() && stdout.flush().is_ok(),
-    }
-}
-
-// Reads once after the bytes that are held, answers what is decided, and writes the replies.
-fn turn<R: Read, W: Write>(
+// Reads once after the bytes that are held, and answers what is decided.
+fn turn<R: Read>(
     stdin: &mut R,
-    stdout: &mut W,
     array: &mut [u64],
     entries: &mut [u64],
     index: &mut [Word],
@@ -98,27 +68,17 @@ fn turn<R: Read, W: Write>(
 ) -> Turned
     requires sound { Sound (store_of array.old entries.old index.old sizes) }
     requires rooms { (held < longest_record) × (input_room ≡ length input.old) × (output_room ≡ length output.old) }
-    ensures { Answered (store_of array.old entries.old index.old sizes) (store_of array.new entries.new index.new result.sizes) input.old held input.new output.new result }
+    ensures answered { Answered (store_of array.old entries.old index.old sizes) (store_of array.new entries.new index.new result.progress.sizes) input.old held input.new output.new result }
+    ensures came { Consumes (R.remaining stdin.old) (R.remaining stdin.new) (take result.got (drop held input.new)) }
 {
-    let got = read_some(stdin, &mut input[held..], held);
-    let n = held + got;
-    let p = session::serve(array, entries, index, sizes, &input[0..n], got == 0, output);
-    let after = p.sizes;
-    let made = p.made;
-    let replies = &output[..];
-    let sent = send(stdout, &replies[0..made], replies);
-    Turned {
-        sizes: after,
-        got: got,
-        taken: p.taken,
-        made: sent.made,
-        stopped: p.stopped,
-        written: sent.all,
-    }
+    let got = read_some(stdin, &mut input[held..]);
+    let come = &input[..held + got];
+    let progress = session::serve(array, entries, index, sizes, come, got == 0, output);
+    Turned { got, progress }
 }
 
-// Turn after turn, what is left of the input moved to its front in between. A proved loop has to end, and nothing says that the input does:
-// so it counts turns down, from a number that no run uses up.
+// Turn after turn, what it answers written, and what is left of the input moved to its front. A proved loop has to end, and nothing says that
+// the input does: so it counts turns, up to a number that no run comes to.
 fn take_turns<R: Read, W: Write>(
     stdin: &mut R,
     stdout: &mut W,
@@ -126,19 +86,17 @@ fn take_turns<R: Read, W: Write>(
     entries: &mut [u64],
     index: &mut [Word],
     sizes: Record,
-) -> Ended
+) -> io::Result<Ended>
     requires { Sound (store_of array.old entries.old index.old sizes) }
-    ensures { Run (store_of array.old entries.old index.old sizes) result }
+    ensures { Run (streams (R.remaining stdin.old) (W.contents stdout.old)) (streams (R.remaining stdin.new) (W.contents stdout.new)) (store_of array.old entries.old index.old sizes) result }
 {
-    let mut input = input_room();
-    let mut output = output_room();
+    let mut input: [u8; INPUT] = lent::room();
+    let mut output: [u8; OUTPUT] = lent::room();
     let mut now = sizes;
     let mut held = 0;
-    let mut turns = u64::MAX;
-    while turns > 0 {
-        let t = turn(
+    for _ in 0..u64::MAX {
+        let Turned { got, progress } = turn(
             stdin,
-            stdout,
             array,
             entries,
             index,
@@ -147,40 +105,28 @@ fn take_turns<R: Read, W: Write>(
             held,
             &mut output,
         );
-        if !t.written {
-            return Ended::Unwritten;
+        send(stdout, &output[..progress.made])?;
+        if progress.stopped {
+            return Ok(Ended::Stopped);
         }
-        if t.stopped {
-            return Ended::Stopped;
-        }
-        let after = t.sizes;
-        now = after;
-        held = session::keep(&mut input, t.taken, held + t.got);
-        turns -= 1;
+        now = progress.sizes;
+        held = session::keep(&mut input, progress.taken, held + got);
     }
-    Ended::Spent
+    Ok(Ended::Spent)
 }
 
-// The whole program: on a fresh store of the trace's room. That its lengths would not be right never comes.
-fn run<R: Read, W: Write>(stdin: &mut R, stdout: &mut W) -> Ended
-    ensures { Run trace_store result }
+// The whole program, on the store that a trace begins with.
+fn run<R: Read, W: Write>(stdin: &mut R, stdout: &mut W) -> io::Result<Ended>
+    ensures { Run (streams (R.remaining stdin.old) (W.contents stdout.old)) (streams (R.remaining stdin.new) (W.contents stdout.new)) trace_store result }
 {
-    let mut array = session::array_room();
-    let mut entries = session::entry_room();
-    let mut index = session::index_room();
-    match store::fresh(&mut array, &mut entries, &mut index) {
-        Made::Store(sizes) => take_turns(
-            stdin,
-            stdout,
-            &mut array,
-            &mut entries,
-            &mut index,
-            sizes,
-        ),
-        Made::No(_) => Ended::Spent,
-    }
+    let mut array: [u64; session::ARRAY] = lent::room();
+    let mut entries: [u64; session::ENTRIES] = lent::room();
+    let mut index: [Word; session::INDEX] = lent::room();
+    let sizes = session::begin(&mut array, &mut entries, &mut index);
+    take_turns(stdin, stdout, &mut array, &mut entries, &mut index, sizes)
 }
 
+// A write that fails ends the run, and there is no one to tell.
 fn main(rt: HostRuntime) {
-    run(&mut rt.stdin(), &mut rt.stdout());
+    let _ = run(&mut rt.stdin(), &mut rt.stdout());
 }

@@ -1,16 +1,11 @@
--- What the test x != x says of a float: it is the NaN, or none. Assumes nothing.
-use mathlib.Core.Path.{◌≡◌, sym, subst}
-use mathlib.Core.Bool.{true, false, not}
-use lib.Dec.{T}
-use lib.Ieee.{Float, nan, inf, fin, ne, is_nan}
-use lib.Ieee.Compare.{differs_from_itself, nan_differs}
+-- There is one NaN. Assumes nothing.
+use mathlib.Core.Path.{◌≡◌, refl}
+use mathlib.Core.Bool.{true}
+use lib.Ieee.{Float, nan, inf, fin, is_nan}
 use Rattle.value.proofs.Cases.{clash}
 
-pub same-no-nan : (x : Float) → ne x x ≡ false → T (not (is_nan x))
+pub nan-one : (x : Float) → is_nan x ≡ true → nan ≡ x
 unfolding is_nan
-same-no-nan nan t = clash nan_differs t
-same-no-nan (inf s) t = tt
-same-no-nan (fin s m e) t = tt
-
-pub other-nan : (x : Float) → ne x x ≡ true → x ≡ nan
-other-nan x t = differs_from_itself x (subst T (sym t) tt)
+nan-one nan t = refl
+nan-one (inf s) t = clash t refl
+nan-one (fin s m e) t = clash t refl

@@ -4,3 +4,4 @@ pub mod Same
 pub mod Signed
 pub mod Floats
 pub mod RoundTrip
+pub mod Refusals

@@ -2,6 +2,7 @@
 -- that were read are written back bit for bit, a NaN's too. What was read is of the program's types. Assumes nothing.
 use mathlib.Core.Path.{◌≡◌, refl, sym, ap, ◌∙◌, subst}
 use mathlib.Core.Bool.{Bool, true, false, not, cond}
+use Rattle.std.specs.Prelude.{Result, Ok, Err, is_ok}
 use mathlib.Core.Logic.{◌⊎◌, inl, inr}
 use Prim.Native.Nat.{ℕ, ◌<◌, ◌^◌}
 use borrow.Author.Tests.{eqb-true}
@@ -14,18 +15,18 @@ use Rattle.value.specs.declared.Function.TheVariants.{Closure, Callback}
 use Rattle.value.specs.declared.Value.{Value}
 use Rattle.value.specs.declared.Value.TheVariants.{Nil, Boolean, Integer, Number, NaN, String, Table, Function as FunctionValue, Thread, UserData}
 use Rattle.value.specs.declared.Words.{Words}
-use Rattle.value.specs.declared.Decoded.{Decoded}
-use Rattle.value.specs.declared.Decoded.TheVariants.{Value as Good, Undecodable}
-use Rattle.value.specs.Encoding.{words, kind_of, payload_of, encoded, number_of, pick, decoded_as, decoded, is_good, or_nil, value_of, decodes, Typed, settled}
+use Rattle.value.specs.declared.refusal.Refusal.{Refusal}
+use Rattle.value.specs.declared.refusal.Refusal.TheVariants.{NoValue}
+use Rattle.value.specs.Encoding.{words, kind_of, payload_of, encoded, number_of, decoded_as, decoded, or_nil, value_of, decodes, Typed, settled}
 use Rattle.value.specs.Same.{same, is_nil}
 use Rattle.value.proofs.Cases.{caseb, clash, never}
 
 -- a value stored and read
-pub stored-read : (v : Value) → Typed v → decoded (encoded v) ≡ Good (settled v)
+pub stored-read : (v : Value) → Typed v → decoded (encoded v) ≡ Ok (settled v)
 stored-read Nil t = refl
 stored-read (Boolean true) t = refl
 stored-read (Boolean false) t = refl
-stored-read (Integer n) t = ap (λ z. Good (Integer z)) (to_z-of_z t)
+stored-read (Integer n) t = ap (λ z. Ok (Integer z)) (to_z-of_z t)
 stored-read (Number x) t = refl
 stored-read (NaN p) t = refl
 stored-read (String h) t = refl
@@ -36,7 +37,7 @@ stored-read (Thread h) t = refl
 stored-read (UserData h) t = refl
 
 -- ---- two words read and stored
-step : (b : Bool) (a r : Decoded) (v : Value) → pick b a r ≡ Good v → ((b ≡ true) × (a ≡ Good v)) ⊎ ((b ≡ false) × (r ≡ Good v))
+step : (b : Bool) (a r : Result Value Refusal) (v : Value) → cond b a r ≡ Ok v → ((b ≡ true) × (a ≡ Ok v)) ⊎ ((b ≡ false) × (r ≡ Ok v))
 step true a r v e = inl (refl, e)
 step false a r v e = inr (refl, e)
 
@@ -44,10 +45,10 @@ abbrev Back : ℕ → ℕ → Value → Type 0
 Back k p v = (kind_of v ≡ k) × (payload_of v ≡ p) × Typed v
 
 -- an answer that is one value
-one : (k p : ℕ) (u v : Value) → Back k p u → Good u ≡ Good v → Back k p v
+one : (k p : ℕ) (u v : Value) → Back k p u → (let read : Value → Result Value Refusal = Ok in read u ≡ read v) → Back k p v
 one k p u v h e = let q : u ≡ v = cc in subst (Back k p) q h
 
-none : {X : Type 0} (v : Value) → Undecodable ≡ Good v → X
+none : {X : Type 0} (v : Value) → (Err NoValue) ≡ Ok v → X
 none v e = never (cc)
 
 number-back : (p : ℕ) → p < 2 ^ 64 → Back 3 p (number_of p)
@@ -57,21 +58,21 @@ number-back p l = go (nan_bits binary64 p) (nan_bits_is binary64 p)
     go true e = (refl, refl, tt)
     go false e = (refl, to_bits-of_bits binary64 p l (subst (λ (b : Bool). T (not b)) e tt), of_bits-fits binary64 p)
 
-nil-back : (k p : ℕ) (v : Value) → k ≡ 0 → pick (eqb p 0) (Good Nil) Undecodable ≡ Good v → Back k p v
-nil-back k p v h e = elim (step (eqb p 0) (Good Nil) Undecodable v e) [ inl a ↦ one k p Nil v (sym h, sym (eqb-true p 0 a.0), tt) a.1 | inr a ↦ none v a.1 ]
+nil-back : (k p : ℕ) (v : Value) → k ≡ 0 → cond (eqb p 0) (Ok Nil) (Err NoValue) ≡ Ok v → Back k p v
+nil-back k p v h e = elim (step (eqb p 0) (Ok Nil) (Err NoValue) v e) [ inl a ↦ one k p Nil v (sym h, sym (eqb-true p 0 a.0), tt) a.1 | inr a ↦ none v a.1 ]
 
-boolean-back : (k p : ℕ) (v : Value) → k ≡ 1 → pick (eqb p 0) (Good (Boolean false)) (pick (eqb p 1) (Good (Boolean true)) Undecodable) ≡ Good v → Back k p v
-boolean-back k p v h e = elim (step (eqb p 0) (Good (Boolean false)) (pick (eqb p 1) (Good (Boolean true)) Undecodable) v e) [
+boolean-back : (k p : ℕ) (v : Value) → k ≡ 1 → cond (eqb p 0) (Ok (Boolean false)) (cond (eqb p 1) (Ok (Boolean true)) (Err NoValue)) ≡ Ok v → Back k p v
+boolean-back k p v h e = elim (step (eqb p 0) (Ok (Boolean false)) (cond (eqb p 1) (Ok (Boolean true)) (Err NoValue)) v e) [
   | inl a ↦ one k p (Boolean false) v (sym h, sym (eqb-true p 0 a.0), tt) a.1
-  | inr a ↦ elim (step (eqb p 1) (Good (Boolean true)) Undecodable v a.1) [ inl b ↦ one k p (Boolean true) v (sym h, sym (eqb-true p 1 b.0), tt) b.1 | inr b ↦ none v b.1 ]
+  | inr a ↦ elim (step (eqb p 1) (Ok (Boolean true)) (Err NoValue) v a.1) [ inl b ↦ one k p (Boolean true) v (sym h, sym (eqb-true p 1 b.0), tt) b.1 | inr b ↦ none v b.1 ]
 ]
 
 module _ (k p : ℕ) (l : p < 2 ^ 64) (v : Value) where
   -- the words from kind 2 up, each kind with its one value
-  chain : (i : ℕ) (u : Value) (r : Decoded) → Back i p u → (r ≡ Good v → Back k p v) → pick (eqb k i) (Good u) r ≡ Good v → Back k p v
-  chain i u r h f e = elim (step (eqb k i) (Good u) r v e) [ inl a ↦ one k p u v (h.0 ∙ sym (eqb-true k i a.0), h.1, h.2) a.1 | inr a ↦ f a.1 ]
+  chain : (i : ℕ) (u : Value) (r : Result Value Refusal) → Back i p u → (r ≡ Ok v → Back k p v) → cond (eqb k i) (Ok u) r ≡ Ok v → Back k p v
+  chain i u r h f e = elim (step (eqb k i) (Ok u) r v e) [ inl a ↦ one k p u v (h.0 ∙ sym (eqb-true k i a.0), h.1, h.2) a.1 | inr a ↦ f a.1 ]
 
-  read_back : decoded_as k p ≡ Good v → Back k p v
+  read_back : decoded_as k p ≡ Ok v → Back k p v
   read_back e =
       elim (step (eqb k 0) _ _ v e) [
         | inl a ↦ nil-back k p v (eqb-true k 0 a.0) a.1
@@ -90,28 +91,28 @@ module _ (k p : ℕ) (l : p < 2 ^ 64) (v : Value) where
             ]
       ]
 
-pub read-stored : (w : Words) (v : Value) → w.payload < 2 ^ 64 → decoded w ≡ Good v → encoded v ≡ w
+pub read-stored : (w : Words) (v : Value) → w.payload < 2 ^ 64 → decoded w ≡ Ok v → encoded v ≡ w
 read-stored w v l e = let b : Back w.kind w.payload v = read_back w.kind w.payload l v e in λ i. words (b.0 i) (b.1 i)
 
 -- what decode made is of the program's types, and settles to itself
-pub read-typed : (w : Words) (v : Value) → w.payload < 2 ^ 64 → decoded w ≡ Good v → Typed v
+pub read-typed : (w : Words) (v : Value) → w.payload < 2 ^ 64 → decoded w ≡ Ok v → Typed v
 read-typed w v l e = (read_back w.kind w.payload l v e).2
 
-pub read-settled : (w : Words) (v : Value) → w.payload < 2 ^ 64 → decoded w ≡ Good v → settled v ≡ v
-read-settled w v l e = let p : Good (settled v) ≡ Good v = sym (stored-read v (read-typed w v l e)) ∙ ap decoded (read-stored w v l e) ∙ e in cc
+pub read-settled : (w : Words) (v : Value) → w.payload < 2 ^ 64 → decoded w ≡ Ok v → settled v ≡ v
+read-settled w v l e = let p : Ok (settled v) ≡ Ok v = sym (stored-read v (read-typed w v l e)) ∙ ap decoded (read-stored w v l e) ∙ e in cc
 
 pub encoded-decodes : (v : Value) → Typed v → decodes (encoded v) ≡ true
 unfolding decodes
-encoded-decodes v t = ap is_good (stored-read v t)
+encoded-decodes v t = ap is_ok (stored-read v t)
 
 -- words that are a value's are read as that value
-pub value_read : (w : Words) → decodes w ≡ true → decoded w ≡ Good (value_of w)
+pub value_read : (w : Words) → decodes w ≡ true → decoded w ≡ Ok (value_of w)
 unfolding decodes
 value_read w d = go (decoded w) d
   where
-    go : (r : Decoded) → is_good r ≡ true → r ≡ Good (or_nil r)
-    go (Good v) e = refl
-    go Undecodable e = clash e refl
+    go : (r : Result Value Refusal) → is_ok r ≡ true → r ≡ Ok (or_nil r)
+    go (Ok v) e = refl
+    go (Err r) e = clash e refl
 
 -- a stored value is Nil exactly when its kind word is 0
 pub nil-kind : (w : Words) → decodes w ≡ true → is_nil w ≡ eqb w.kind 0

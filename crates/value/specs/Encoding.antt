@@ -1,6 +1,6 @@
 -- The two words of a value, kind and payload, and the value that two words stand for (01, 'Values and keys').
 -- Assumes nothing.
-use Rattle.std.specs.Prelude.{◌≡◌, ℕ, Bool, true, false, cond, T, eqb}
+use Rattle.std.specs.Prelude.{◌≡◌, ℕ, Bool, true, false, cond, T, eqb, Result, Ok, Err, is_ok}
 use Rattle.std.specs.Float.{binary64}
 use Rattle.std.specs.Float.Ieee.{fits, to_bits, of_bits, nan_bits}
 use Rattle.std.specs.Int.{w64}
@@ -10,8 +10,8 @@ use Rattle.value.specs.declared.Function.TheVariants.{Closure, Callback}
 use Rattle.value.specs.declared.Value.{Value}
 use Rattle.value.specs.declared.Value.TheVariants.{Nil, Boolean, Integer, Number, NaN, String, Table, Function as FunctionValue, Thread, UserData}
 use Rattle.value.specs.declared.Words.{Words}
-use Rattle.value.specs.declared.Decoded.{Decoded}
-use Rattle.value.specs.declared.Decoded.TheVariants.{Value as Good, Undecodable}
+use Rattle.value.specs.declared.refusal.Refusal.{Refusal}
+use Rattle.value.specs.declared.refusal.Refusal.TheVariants.{NoValue}
 
 abbrev pub words : ℕ → ℕ → Words
 words k p = record { kind = k; payload = p }
@@ -57,42 +57,34 @@ encoded v = words (kind_of v) (payload_of v)
 abbrev pub number_of : ℕ → Value
 number_of b = cond (nan_bits binary64 b) (NaN b) (Number (of_bits binary64 b))
 
-abbrev pub pick : Bool → Decoded → Decoded → Decoded
-pick true a b = a
-pick false a b = b
-
 -- undecodable: a kind above 9, Nil with a payload, a Boolean above 1
-abbrev pub decoded_as : ℕ → ℕ → Decoded
+abbrev pub decoded_as : ℕ → ℕ → Result Value Refusal
 decoded_as k p =
-    pick (eqb k 0) (pick (eqb p 0) (Good Nil) Undecodable)
-    (pick (eqb k 1) (pick (eqb p 0) (Good (Boolean false)) (pick (eqb p 1) (Good (Boolean true)) Undecodable))
-    (pick (eqb k 2) (Good (Integer (to_z w64 p)))
-    (pick (eqb k 3) (Good (number_of p))
-    (pick (eqb k 4) (Good (String p))
-    (pick (eqb k 5) (Good (Table p))
-    (pick (eqb k 6) (Good (FunctionValue (Closure p)))
-    (pick (eqb k 7) (Good (FunctionValue (Callback p)))
-    (pick (eqb k 8) (Good (Thread p))
-    (pick (eqb k 9) (Good (UserData p)) Undecodable)))))))))
+    cond (eqb k 0) (cond (eqb p 0) (Ok Nil) (Err NoValue))
+    (cond (eqb k 1) (cond (eqb p 0) (Ok (Boolean false)) (cond (eqb p 1) (Ok (Boolean true)) (Err NoValue)))
+    (cond (eqb k 2) (Ok (Integer (to_z w64 p)))
+    (cond (eqb k 3) (Ok (number_of p))
+    (cond (eqb k 4) (Ok (String p))
+    (cond (eqb k 5) (Ok (Table p))
+    (cond (eqb k 6) (Ok (FunctionValue (Closure p)))
+    (cond (eqb k 7) (Ok (FunctionValue (Callback p)))
+    (cond (eqb k 8) (Ok (Thread p))
+    (cond (eqb k 9) (Ok (UserData p)) (Err NoValue))))))))))
 
-abbrev pub decoded : Words → Decoded
+abbrev pub decoded : Words → Result Value Refusal
 decoded w = decoded_as w.kind w.payload
 
-abbrev pub is_good : Decoded → Bool
-is_good (Good v) = true
-is_good Undecodable = false
-
 -- the value that is read: Nil where the words are no value's
-abbrev pub or_nil : Decoded → Value
-or_nil (Good v) = v
-or_nil Undecodable = Nil
+abbrev pub or_nil : Result Value Refusal → Value
+or_nil (Ok v) = v
+or_nil (Err e) = Nil
 
 abbrev pub value_of : Words → Value
 value_of w = or_nil (decoded w)
 
 -- whether two words are a value's
 unfoldable pub decodes : Words → Bool
-decodes w = is_good (decoded w)
+decodes w = is_ok (decoded w)
 
 abbrev pub Decodes : Words → Type 0
 Decodes w = decodes w ≡ true

@@ -3,12 +3,15 @@
 #![tactic(auto)]
 
 ghost use Rattle.std.specs.Prelude.{◌≡◌};
-ghost use Rattle.std.specs.Int.{w64};
-ghost use Rattle.std.proofs.Common.{of_z, to_z};
 ghost use Rattle.std.specs.Float.{binary64};
 ghost use Rattle.std.specs.Float.Ieee.{to_bits, nan_bits};
-ghost use Rattle.value.specs.Encoding.{kind_of, payload_of, encoded, number_of, decoded, value_of};
-ghost use Rattle.value.specs.Same.{same, nil as nil_words, is_nil};
+ghost use Rattle.value.specs.Encoding.{words, function_kind, function_handle, encoded, number_of, decoded, value_of};
+ghost use Rattle.value.specs.Same.{is_nil};
+
+mod refusal;
+
+pub use refusal::{Refusal, answer_number};
+use std::fmt;
 
 // Kinds 4 to 9 carry a handle of the host's.
 #[derive(Clone, Copy)]
@@ -33,37 +36,36 @@ pub enum Value {
 }
 
 // A value as it is stored.
-#[derive(Clone, Copy)]
+#[derive(Clone, Copy, Debug, PartialEq, Eq)]
 pub struct Words {
     pub kind: u64,
     pub payload: u64,
 }
 
-#[derive(Clone, Copy)]
-pub enum Decoded {
-    Value(Value),
-    Undecodable,
-}
+impl Words {
+    pub const NIL: Words = Words {
+        kind: 0,
+        payload: 0,
+    };
 
-// The two's complement word of an integer.
-fn integer_word(n: i64) -> u64
-    ensures { result ≡ of_z w64 n }
-{
-    if n >= 0 {
-        n as u64
-    } else {
-        u64::MAX - ((-1 - n) as u64)
+    pub fn new(kind: u64, payload: u64) -> Words
+        ensures { result ≡ words kind payload }
+    {
+        Words { kind, payload }
+    }
+
+    #[tactic(auto, unfolding(crate::specs::Same::same))]
+    pub fn is_nil(self) -> bool
+        ensures { result ≡ is_nil self }
+    {
+        self == Words::NIL
     }
 }
 
-// The integer of a two's complement word.
-fn word_integer(w: u64) -> i64
-    ensures { result ≡ to_z w64 w }
-{
-    if w < 0x8000_0000_0000_0000 {
-        w as i64
-    } else {
-        -1 - ((u64::MAX - w) as i64)
+// Its kind and its payload.
+impl fmt::Display for Words {
+    fn fmt<W: fmt::Write>(&self, f: &mut fmt::Formatter<W>) -> fmt::Result {
+        write!(f, "{} {}", self.kind, self.payload)
     }
 }
 
@@ -71,10 +73,10 @@ fn word_integer(w: u64) -> i64
 fn float_word(x: f64) -> u64
     ensures { result ≡ to_bits binary64 x }
 {
-    if x != x {
+    if x.is_nan() {
         0x7ff8_0000_0000_0000
     } else {
-        f64::to_bits(x)
+        x.to_bits()
     }
 }
 
@@ -85,52 +87,33 @@ pub fn is_nan(bits: u64) -> bool
     bits % 0x8000_0000_0000_0000 > 0x7ff0_0000_0000_0000
 }
 
-fn kind_word(v: Value) -> u64
-    ensures { result ≡ kind_of v }
-{
-    match v {
-        Value::Nil => 0,
-        Value::Boolean(_) => 1,
-        Value::Integer(_) => 2,
-        Value::Number(_) => 3,
-        Value::NaN(_) => 3,
-        Value::String(_) => 4,
-        Value::Table(_) => 5,
-        Value::Function(f) => match f {
-            Function::Closure(_) => 6,
-            Function::Callback(_) => 7,
-        },
-        Value::Thread(_) => 8,
-        Value::UserData(_) => 9,
+impl From<Function> for Words {
+    ghost from_gives = { λ f w. w ≡ words (function_kind f) (function_handle f) };
+
+    fn from(f: Function) -> Words {
+        match f {
+            Function::Closure(h) => Words::new(6, h),
+            Function::Callback(h) => Words::new(7, h),
+        }
     }
 }
 
-fn payload_word(v: Value) -> u64
-    ensures { result ≡ payload_of v }
-{
-    match v {
-        Value::Nil => 0,
-        Value::Boolean(b) => { if b { 1 } else { 0 } }
-        Value::Integer(n) => integer_word(n),
-        Value::Number(x) => float_word(x),
-        Value::NaN(bits) => bits,
-        Value::String(h) => h,
-        Value::Table(h) => h,
-        Value::Function(f) => match f {
-            Function::Closure(h) => h,
-            Function::Callback(h) => h,
-        },
-        Value::Thread(h) => h,
-        Value::UserData(h) => h,
-    }
-}
+impl From<Value> for Words {
+    ghost from_gives = { λ v w. w ≡ encoded v };
 
-pub fn encode(v: Value) -> Words
-    ensures { result ≡ encoded v }
-{
-    Words {
-        kind: kind_word(v),
-        payload: payload_word(v),
+    fn from(v: Value) -> Words {
+        match v {
+            Value::Nil => Words::NIL,
+            Value::Boolean(b) => Words::new(1, u64::from(b)),
+            Value::Integer(n) => Words::new(2, n.cast_unsigned()),
+            Value::Number(x) => Words::new(3, float_word(x)),
+            Value::NaN(bits) => Words::new(3, bits),
+            Value::String(h) => Words::new(4, h),
+            Value::Table(h) => Words::new(5, h),
+            Value::Function(f) => Words::from(f),
+            Value::Thread(h) => Words::new(8, h),
+            Value::UserData(h) => Words::new(9, h),
+        }
     }
 }
 
@@ -144,73 +127,35 @@ fn decode_number(bits: u64) -> Value
     }
 }
 
-pub fn decode(w: Words) -> Decoded
-    ensures { result ≡ decoded w }
-{
-    let kind = w.kind;
-    let payload = w.payload;
-    match kind {
-        0 => {
-            if payload == 0 {
-                Decoded::Value(Value::Nil)
-            } else {
-                Decoded::Undecodable
-            }
+impl TryFrom<Words> for Value {
+    type Error = Refusal;
+
+    ghost try_from_gives = { λ w r. r ≡ decoded w };
+
+    fn try_from(w: Words) -> Result<Value, Refusal> {
+        let payload = w.payload;
+        match (w.kind, payload) {
+            (0, 0) => Ok(Value::Nil),
+            (1, 0) => Ok(Value::Boolean(false)),
+            (1, 1) => Ok(Value::Boolean(true)),
+            (2, _) => Ok(Value::Integer(payload.cast_signed())),
+            (3, _) => Ok(decode_number(payload)),
+            (4, _) => Ok(Value::String(payload)),
+            (5, _) => Ok(Value::Table(payload)),
+            (6, _) => Ok(Value::Function(Function::Closure(payload))),
+            (7, _) => Ok(Value::Function(Function::Callback(payload))),
+            (8, _) => Ok(Value::Thread(payload)),
+            (9, _) => Ok(Value::UserData(payload)),
+            _ => Err(Refusal::NoValue),
         }
-        1 => {
-            if payload == 0 {
-                Decoded::Value(Value::Boolean(false))
-            } else if payload == 1 {
-                Decoded::Value(Value::Boolean(true))
-            } else {
-                Decoded::Undecodable
-            }
-        }
-        2 => Decoded::Value(Value::Integer(word_integer(payload))),
-        3 => Decoded::Value(decode_number(payload)),
-        4 => Decoded::Value(Value::String(payload)),
-        5 => Decoded::Value(Value::Table(payload)),
-        6 => Decoded::Value(Value::Function(Function::Closure(payload))),
-        7 => Decoded::Value(Value::Function(Function::Callback(payload))),
-        8 => Decoded::Value(Value::Thread(payload)),
-        9 => Decoded::Value(Value::UserData(payload)),
-        _ => Decoded::Undecodable,
     }
 }
 
-// Whether two stored values are the same.
-pub fn are_same(a: Words, b: Words) -> bool
-    ensures { result ≡ same a b }
-{
-    if a.kind == b.kind {
-        a.payload == b.payload
-    } else {
-        false
-    }
-}
-
-// Nil, as it is stored.
-pub fn nil() -> Words
-    ensures { result ≡ nil_words }
-{
-    Words {
-        kind: 0,
-        payload: 0,
-    }
-}
-
-pub fn is_nil(w: Words) -> bool
-    ensures { result ≡ is_nil w }
-{
-    are_same(w, nil())
-}
-
-// The value that words stand for; Nil where they stand for none, which a sound store never has.
-pub fn value_of(w: Words) -> Value
-    ensures { result ≡ value_of w }
-{
-    match decode(w) {
-        Decoded::Value(v) => v,
-        Decoded::Undecodable => Value::Nil,
+impl Value {
+    // The value that words stand for; Nil where they stand for none, which a sound store never has.
+    pub fn or_nil(w: Words) -> Value
+        ensures { result ≡ value_of w }
+    {
+        Value::try_from(w).unwrap_or(Value::Nil)
     }
 }

@@ -10,7 +10,6 @@ use Rattle.value.specs.Encoding.{decodes, Decodes}
 use Rattle.value.specs.Same.{same, nil, is_nil}
 use Rattle.value.proofs.Cases.{caseb, clash, or_cases, or_right}
 use Rattle.value.proofs.Same.{same-eq, same_refl, eq-same}
-use Rattle.key.specs.declared.CanonicalKey.TheVariants.{Key}
 use Rattle.key.specs.Canonical.{canonical_key}
 use Rattle.key.proofs.Own.{canonical-own}
 use Rattle.model.specs.Entries.{Entry, entry, keys_of, member, distinct, has, find, put, live, found, last, first}
@@ -24,6 +23,7 @@ use Rattle.model.proofs.Kept.{set_key-kept}
 use Rattle.model.proofs.Next.{next-nil, next-there, after-key, get_key, pairs-apart, pair-canonical, has-middle, next-lists}
 use Rattle.walk.specs.History.{live_keys, May}
 use Rattle.walk.proofs.Lists.{apart, keys-split, last_key, last_snoc, last_entry, FirstFound, first_found, first-last}
+use Rattle.std.specs.Prelude.{Ok}
 
 pub record Inv (room : Room) (t₀ t : Table) (allowed : List Words) (key : Words) (handed : List Entry) (Through : Words → Type 0) : Type 0 where
   pub well_formed : WellFormed room t
@@ -35,7 +35,7 @@ pub record Inv (room : Room) (t₀ t : Table) (allowed : List Words) (key : Word
   pub once : distinct (keys_of handed)
   pub new : (k : Words) → has after k ≡ true → has handed k ≡ false
   -- a key with a value throughout is not passed over, and has one now
-  pub came : (j k : Words) → canonical_key j ≡ Key k → Through j → has before k ≡ true → has handed k ≡ true
+  pub came : (j k : Words) → canonical_key j ≡ Ok k → Through j → has before k ≡ true → has handed k ≡ true
   pub now : (j : Words) → Through j → is_nil (get_of t j) ≡ false
   -- the keys that may be set are there, have all the values, and had one at the start, as those handed out had
   pub present : (k : Words) → member allowed k ≡ true → has (pairs t) k ≡ true
@@ -123,10 +123,10 @@ module _ {room : Room} {t₀ t : Table} {allowed : List Words} {key : Words} {ha
       w : WellFormed room t
       w = i.well_formed
 
-      may : (k : Words) → canonical_key j ≡ Key k → is_nil v ≡ false → member allowed k ≡ true
+      may : (k : Words) → canonical_key j ≡ Ok k → is_nil v ≡ false → member allowed k ≡ true
       may k c n = rw c at (m n)
 
-      written : Decodes v → (k : Words) → canonical_key j ≡ Key k → has (pairs t) k ≡ true → Inv room t₀ (set_key room t k v).table allowed key handed (λ x. (is_nil (get_of (set_key room t k v).table x) ≡ false) × Through x)
+      written : Decodes v → (k : Words) → canonical_key j ≡ Ok k → has (pairs t) k ≡ true → Inv room t₀ (set_key room t k v).table allowed key handed (λ x. (is_nil (get_of (set_key room t k v).table x) ≡ false) × Through x)
       written d k c h =
           let u : Table = (set_key room t k v).table in
           let wu : WellFormed room u = set_key-kept room t k v w (pair-decodes w k h) d (canonical-own j k c) in
@@ -141,7 +141,7 @@ module _ {room : Room} {t₀ t : Table} {allowed : List Words} {key : Words} {ha
 
   -- ---- a step
   -- past pairs of Nil nothing is missed: a key with a value throughout that stands before them, or would be one of them, was handed out
-  pub passed-by : (l rest : List Entry) → i.after ≡ l ++ rest → first l ≡ last → (j k : Words) → canonical_key j ≡ Key k → Through j → has (i.before ++ l) k ≡ true → has handed k ≡ true
+  pub passed-by : (l rest : List Entry) → i.after ≡ l ++ rest → first l ≡ last → (j k : Words) → canonical_key j ≡ Ok k → Through j → has (i.before ++ l) k ≡ true → has handed k ≡ true
   passed-by l rest q f j k c th h =
       caseb (has i.before k)
       (λ b. i.came j k c th b)
@@ -195,7 +195,7 @@ module _ {room : Room} {t₀ t : Table} {allowed : List Words} {key : Words} {ha
             (λ e. clash h (apart (behind ++ (entry k v ∷ [])) ahead.rest x (rw split at (pairs-apart i.well_formed)) (has-append behind (entry k v ∷ []) x ∙ or_right (has behind x) (same k x || false) (rw e))))
             (λ e. rw e (i.new x (rw (ahead.is, has-append ahead.passed (entry k v ∷ ahead.rest) x) (or_right (has ahead.passed x) (same k x || has ahead.rest x) (or_right (same k x) (has ahead.rest x) h)))))
 
-        came : (j x : Words) → canonical_key j ≡ Key x → Through j → (has behind x ≡ true) ⊎ (k ≡ x) → (same k x || has handed x) ≡ true
+        came : (j x : Words) → canonical_key j ≡ Ok x → Through j → (has behind x ≡ true) ⊎ (k ≡ x) → (same k x || has handed x) ≡ true
         came j x c th (inl h) = or_right (same k x) (has handed x) (passed-by ahead.passed (entry k v ∷ ahead.rest) ahead.is ahead.none j x c th h)
         came j x c th (inr p) = rw (eq-same k x p)
 

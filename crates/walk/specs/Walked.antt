@@ -1,8 +1,7 @@
 -- What demand 3 says of a walk at any moment of it: the table is t, `key` was handed out last, `handed` is all that was. Assumes nothing.
-use Rattle.std.specs.Prelude.{◌≡◌, true, false, List, ℕ, ◌≤◌, length}
+use Rattle.std.specs.Prelude.{◌≡◌, true, false, List, ℕ, ◌≤◌, length, Ok}
 use Rattle.value.specs.declared.Words.{Words}
 use Rattle.value.specs.Same.{is_nil}
-use Rattle.key.specs.declared.CanonicalKey.TheVariants.{Key}
 use Rattle.key.specs.Canonical.{canonical_key}
 use Rattle.model.specs.Entries.{Entry, keys_of, member, distinct, found, last, not_found}
 use Rattle.model.specs.Table.{Room, Table, get_of, next_of}
@@ -26,4 +25,4 @@ pub record TableWalked (room : Room) (t₀ t : Table) (key : Words) (handed : Li
   pub few : length handed ≤ at_start t₀
   pub ends : length handed ≡ at_start t₀ → next_of t key ≡ last
   -- at Last, each key with a value throughout has come
-  pub all : next_of t key ≡ last → (j k : Words) → canonical_key j ≡ Key k → Throughout j → member (keys_of handed) k ≡ true
+  pub all : next_of t key ≡ last → (j k : Words) → canonical_key j ≡ Ok k → Throughout j → member (keys_of handed) k ≡ true

@@ -9,7 +9,6 @@ use lib.ListN.{length, get_or, set}
 use borrow.Author.Tests.{lt-ltb, le-ltb}
 use Rattle.value.specs.declared.Words.{Words}
 use Rattle.value.specs.Same.{nil, is_nil}
-use Rattle.key.specs.Refusals.{no_room}
 use Rattle.lent.specs.Lent.{value_at, put_value, put_entry}
 use Rattle.index.specs.declared.Found.{Found}
 use Rattle.index.specs.declared.Found.TheVariants.{At, Absent, Full}
@@ -26,10 +25,11 @@ use Rattle.store.proofs.Views.{length-array, length-entries}
 use Rattle.store.proofs.Sound.{Fits, fits, sound-formed, sound-written, right-index, sound-shaped}
 use Rattle.store.proofs.Puts.{array-put, entry-put, append-here}
 use Rattle.store.proofs.Keys.{inside-by, key-by, has-by, find-by}
-use Rattle.writes.specs.declared.SetWords.{SetWords}
-use Rattle.writes.specs.declared.SetWords.TheVariants.{Done as SetDoes, No as SetNo}
 use Rattle.writes.specs.Writes.{Left, left, written_out}
 use Rattle.writes.specs.Roads.{GrowDone, with_count, AbsentAt, AbsentDoes, KeyDone}
+use Rattle.std.specs.Prelude.{Result, Ok, Err}
+use Rattle.value.specs.declared.refusal.Refusal.{Refusal}
+use Rattle.value.specs.declared.refusal.Refusal.TheVariants.{NoRoom}
 
 module _ (s : Store) (S : Sound s) (k v : Words) where
   abbrev t : Table
@@ -111,7 +111,7 @@ module _ (s : Store) (S : Sound s) (k v : Words) where
 -- ---- what is promised, where the key is in the array, where a search for it has answered, and where it is absent
 module _ (s : Store) (k v : Words) where
   pub array-done : within s.sizes.size k ≡ true → (i : ℕ) → i ≡ place_of k → (p : Words) → p ≡ value_at s.slices.array i
-      → (aw : List ℕ) → aw ≡ put_value s.slices.array i v → KeyDone s k v (slices aw s.slices.entries s.slices.index) (SetDoes p s.sizes)
+      → (aw : List ℕ) → aw ≡ put_value s.slices.array i v → KeyDone s k v (slices aw s.slices.entries s.slices.index) (Ok (p, s.sizes))
   array-done h i e p q aw w = (tt, record { refused = λ n. absurd (n refl); sound = λ S. rw (q, w, e) (over-array s S k v h) })
 
   abbrev Answered : Found → Type 0
@@ -122,24 +122,24 @@ module _ (s : Store) (k v : Words) where
     answered S found e = subst Answered e (f (right-index s S))
 
     pub entry_done : within s.sizes.size k ≡ false → (i : ℕ) → r ≡ At i → (p : Words) → p ≡ value_at s.slices.entries (2 * i + 1)
-        → (ew : List ℕ) → ew ≡ put_value s.slices.entries (2 * i + 1) v → KeyDone s k v (slices s.slices.array ew s.slices.index) (SetDoes p s.sizes)
+        → (ew : List ℕ) → ew ≡ put_value s.slices.entries (2 * i + 1) v → KeyDone s k v (slices s.slices.array ew s.slices.index) (Ok (p, s.sizes))
     entry_done h i e p q ew w = (tt, record { refused = λ n. absurd (n refl); sound = λ S. rw (q, w) (over-entry s S k v h i (answered S (At i) e)) })
 
-    pub absent-done : within s.sizes.size k ≡ false → (p : ℕ) → r ≡ Absent p → (after : Slices) (x : SetWords) → AbsentDoes s p k v after x → KeyDone s k v after x
+    pub absent-done : within s.sizes.size k ≡ false → (p : ℕ) → r ≡ Absent p → (after : Slices) (x : Result (Words × Record) Refusal) → AbsentDoes s p k v after x → KeyDone s k v after x
     absent-done h p e after x d = (d.number, record { refused = d.refused; sound = λ S. d.sound S (absent-at s S k v h p (answered S (Absent p) e)) })
 
-    pub full-done : r ≡ Full → KeyDone s k v s.slices (SetNo no_room)
+    pub full-done : r ≡ Full → KeyDone s k v s.slices (Err NoRoom)
     full-done e = (refl, record { refused = λ n. refl; sound = λ S. absurd (answered S Full e) })
 
   module _ (place : ℕ) where
-    pub nothing-done : is_nil v ≡ true → (p : Words) → p ≡ nil → AbsentDoes s place k v s.slices (SetDoes p s.sizes)
+    pub nothing-done : is_nil v ≡ true → (p : Words) → p ≡ nil → AbsentDoes s place k v s.slices (Ok (p, s.sizes))
     nothing-done h p q = record { number = tt; refused = λ n. absurd (n refl); sound = λ S a. rw q (nothing s S k v place a h) }
 
     pub append-done : is_nil v ≡ false → s.sizes.count < s.sizes.allowance → (p : Words) → p ≡ nil
         → (ew iw : List ℕ) (r : Record) → ew ≡ put_entry s.slices.entries s.sizes.count k v → iw ≡ set s.slices.index place (s.sizes.count + 1)
-        → r ≡ with_count s.sizes (s.sizes.count + 1) → AbsentDoes s place k v (slices s.slices.array ew iw) (SetDoes p r)
+        → r ≡ with_count s.sizes (s.sizes.count + 1) → AbsentDoes s place k v (slices s.slices.array ew iw) (Ok (p, r))
     append-done h g p q ew iw r e i c =
         record { number = tt; refused = λ n. absurd (n refl); sound = λ S a. rw (q, e, i, c) (one_more s S k v place a h g) }
 
-    pub grow-done : is_nil v ≡ false → s.sizes.allowance ≤ s.sizes.count → (after : Slices) (x : SetWords) → GrowDone s k v after x → AbsentDoes s place k v after x
+    pub grow-done : is_nil v ≡ false → s.sizes.allowance ≤ s.sizes.count → (after : Slices) (x : Result (Words × Record) Refusal) → GrowDone s k v after x → AbsentDoes s place k v after x
     grow-done h g after x d = record { number = d.0; refused = d.1.refused; sound = λ S a. grows s S k v place a h g (d.1.sound S) }

@@ -8,7 +8,7 @@ use lib.ListN.{length}
 use borrow.Author.Tests.{le-leb, lt-leb}
 use Rattle.value.specs.declared.Words.{Words}
 use Rattle.value.specs.Same.{nil}
-use Rattle.key.specs.Refusals.{no_room}
+use Rattle.value.specs.Refusals.{no_room}
 use Rattle.key.specs.Canonical.{integer}
 use Rattle.lent.specs.Lent.{WordSized}
 use Rattle.model.specs.Entries.{keep}
@@ -26,9 +26,10 @@ use Rattle.store.proofs.Views.{length-array}
 use Rattle.store.proofs.Sound.{sound-written, written-sound}
 use Rattle.growth.specs.Counts.{GrownSize}
 use Rattle.rehash.specs.Rehash.{staying_in}
-use Rattle.writes.specs.declared.SetWords.TheVariants.{Done as SetDoes, No as SetNo}
 use Rattle.writes.specs.Writes.{Left, left, written_out}
 use Rattle.writes.specs.Roads.{ArrayGrown, EntryGrown, GrowDone}
+use Rattle.std.specs.Prelude.{Ok, Err}
+use Rattle.value.specs.declared.refusal.Refusal.TheVariants.{NoRoom}
 
 -- ---- soundness
 pub outcome-sound : (s : Store) → Sound s → (o : Outcome) → WellFormed (room_for s) o.table → (x : Left) → x ≡ written_out (lengths_of s.slices) o
@@ -73,7 +74,7 @@ module _ (s : Store) (k v : Words) (r : ℕ) (g : GrownSize s k r) where
   staying-is = ap (λ (A : ℕ). length (keep (stays A) t.entries)) size_is
 
   pub into-array : within r k ≡ true → (p : Words) → p ≡ nil → (after : Slices) (sizes : Record) → ArrayGrown s r k v (store after sizes)
-      → GrowDone s k v after (SetDoes p sizes)
+      → GrowDone s k v after (Ok (p, sizes))
   unfolding grow place_in
   into-array h p q after sizes a = (
     tt,
@@ -84,7 +85,7 @@ module _ (s : Store) (k v : Words) (r : ℕ) (g : GrownSize s k r) where
   )
 
   pub no_room_lem : within r k ≡ false → (room_for s).entry_room ≤ length (staying_in s.slices.entries s.sizes.count r)
-      → GrowDone s k v s.slices (SetNo no_room)
+      → GrowDone s k v s.slices (Err NoRoom)
   unfolding grow place_in
   no_room_lem h f = (
     refl,
@@ -95,7 +96,7 @@ module _ (s : Store) (k v : Words) (r : ℕ) (g : GrownSize s k r) where
   )
 
   pub into-entries : within r k ≡ false → length (staying_in s.slices.entries s.sizes.count r) < (room_for s).entry_room
-      → (p : Words) → p ≡ nil → (after : Slices) (sizes : Record) → EntryGrown s r k v (store after sizes) → GrowDone s k v after (SetDoes p sizes)
+      → (p : Words) → p ≡ nil → (after : Slices) (sizes : Record) → EntryGrown s r k v (store after sizes) → GrowDone s k v after (Ok (p, sizes))
   unfolding grow place_in
   into-entries h f p q after sizes a = (
     tt,

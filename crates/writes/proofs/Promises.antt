@@ -4,13 +4,10 @@ use mathlib.Core.Path.{◌≡◌, refl, sym, ap, subst, ◌∙◌}
 use mathlib.Core.Bool.{true, false}
 use mathlib.Core.Logic.{inl, inr}
 use Prim.Native.Nat.{ℕ}
-use native.Mathlib.Omega.{arith}
 use Rattle.value.specs.declared.Words.{Words}
 use Rattle.value.specs.Same.{nil}
-use Rattle.key.specs.declared.CanonicalKey.TheVariants.{Key, No}
-use Rattle.key.specs.Refusals.{wrong_shape, no_value}
+use Rattle.value.specs.Refusals.{wrong_shape, no_value, refusal_number}
 use Rattle.key.specs.Canonical.{canonical_key}
-use Rattle.key.proofs.Own.{no_key}
 use Rattle.lent.specs.Lent.{WordSized}
 use Rattle.model.specs.Calls.{Outcome, refuse, are_values}
 use Rattle.model.specs.WellFormed.{WellFormed}
@@ -21,11 +18,12 @@ use Rattle.store.specs.Store.{Slices, Store, lengths_of, room_for}
 use Rattle.store.specs.Shape.{Shaped}
 use Rattle.store.specs.Written.{Sound, table_of}
 use Rattle.store.proofs.Sound.{sound-formed, sound-written, sound-shaped}
-use Rattle.writes.specs.declared.SetWords.{SetWords}
-use Rattle.writes.specs.declared.SetWords.TheVariants.{Done as SetDoes, No as SetNo}
-use Rattle.writes.specs.Writes.{Left, left, set_left, SetNumbered, written_out, Does, RoomOnly, SetNumbers, Promised, set_outcome, SetDone}
+use Rattle.writes.specs.Writes.{Left, left, set_left, written_out, Does, RoomOnly, SetNumbers, Promised, set_outcome, SetDone}
 use Rattle.writes.specs.Roads.{RefusesRoom, KeyDone}
 use Rattle.writes.proofs.Outcomes.{outcome-sound}
+use Rattle.std.specs.Prelude.{Result, Ok, Err}
+use Rattle.value.specs.declared.refusal.Refusal.{Refusal}
+use Rattle.value.specs.declared.refusal.Refusal.TheVariants.{NoValue}
 
 -- ---- any call
 pub wrong-shape : (s : Store) {o : Outcome} {Numbers : ℕ → Type 0} → (Shaped s → ⊥) → Promised s o Numbers (left wrong_shape nil s)
@@ -49,18 +47,14 @@ changed s o Numbers x h m k d a e =
     record { wrong = λ w. absurd (w h); right = λ w. m; does = d; kept = λ S. outcome-sound s S o (k S) x (d.sound S) a e }
 
 -- ---- set
-numbered : (r : SetWords) → RefusesRoom r → SetNumbered r
-numbered (SetDoes p r) e = tt
-numbered (SetNo n) e = omega (arith, e)
-
-room-only : (before : Record) (after : Slices) (r : SetWords) → RefusesRoom r → RoomOnly (set_left before after r).refusal
-room-only before after (SetDoes p r) e = inl refl
-room-only before after (SetNo n) e = inr e
+room-only : (before : Record) (after : Slices) (r : Result (Words × Record) Refusal) → RefusesRoom r → RoomOnly (set_left before after r).refusal
+room-only before after (Ok (p, r)) e = inl refl
+room-only before after (Err r) e = inr (ap refusal_number e)
 
 -- whatever a set answers, these are the slices that it leaves
-slices-left : (before : Record) (after : Slices) (r : SetWords) → after ≡ (set_left before after r).store.slices
-slices-left before after (SetDoes p r) = refl
-slices-left before after (SetNo n) = refl
+slices-left : (before : Record) (after : Slices) (r : Result (Words × Record) Refusal) → after ≡ (set_left before after r).store.slices
+slices-left before after (Ok (p, r)) = refl
+slices-left before after (Err e) = refl
 
 -- a set that the table refuses with this number, whatever room there is
 set-refuses : (s : Store) (key v : Words) (n : ℕ) → Shaped s → SetNumbers key v n → (Sound s → set_outcome s key v ≡ refuse n (table_of s))
@@ -68,23 +62,18 @@ set-refuses : (s : Store) (key v : Words) (n : ℕ) → Shaped s → SetNumbers 
 set-refuses s key v n h m q =
     unchanged s (SetNumbers key v) n h m (λ S. ap (left n nil) (sound-written s S) ∙ sym (ap (written_out (lengths_of s.slices)) (q S)))
 
-pub set-unvalued : (s : Store) → Shaped s → (key v : Words) → are_values key v ≡ false → SetDone s key v s.slices (SetNo no_value)
-set-unvalued s h key v d = (omega arith, set-refuses s key v no_value h (rw d refl) (λ S. set-no-value (room_for s) (table_of s) key v d))
+pub set-unvalued : (s : Store) → Shaped s → (key v : Words) → are_values key v ≡ false → SetDone s key v s.slices (Err NoValue)
+set-unvalued s h key v d = set-refuses s key v no_value h (rw d refl) (λ S. set-no-value (room_for s) (table_of s) key v d)
 
 module _ (s : Store) (h : Shaped s) (key v : Words) (d : are_values key v ≡ true) where
-  pub set-refused : (n : ℕ) → canonical_key key ≡ No n → SetDone s key v s.slices (SetNo n)
-  set-refused n e = (
-    elim (no_key key n e) [ inl a ↦ omega arith | inr a ↦ omega arith ],
-    set-refuses s key v n h (rw (d, e) refl) (λ S. set-no-key (room_for s) (table_of s) key v d n e),
-  )
+  pub set-refused : (r : Refusal) → canonical_key key ≡ Err r → SetDone s key v s.slices (Err r)
+  set-refused r e = set-refuses s key v (refusal_number r) h (rw (d, e) refl) (λ S. set-no-key (room_for s) (table_of s) key v d r e)
 
-  pub set-keyed : (k : Words) → canonical_key key ≡ Key k → (after : Slices) (r : SetWords) → KeyDone s k v after r → WordSized after.array → WordSized after.entries
+  pub set-keyed : (k : Words) → canonical_key key ≡ Ok k → (after : Slices) (r : Result (Words × Record) Refusal) → KeyDone s k v after r → WordSized after.array → WordSized after.entries
       → SetDone s key v after r
   set-keyed k e after r done a w =
-      let same = slices-left s.sizes after r in (
-        numbered r done.0,
-        changed s (set_outcome s key v) (SetNumbers key v) (set_left s.sizes after r) h (rw (d, e) (room-only s.sizes after r done.0)) (λ S. set_of-kept (room_for s) (table_of s) key v (sound-formed s S))
-            (subst (λ (o : Outcome). Does s o (set_left s.sizes after r)) (sym (set_key_lem (room_for s) (table_of s) key v d k e)) done.1)
-            (subst (λ (l : Slices). WordSized l.array) same a)
-            (subst (λ (l : Slices). WordSized l.entries) same w),
-      )
+      let same = slices-left s.sizes after r in
+      changed s (set_outcome s key v) (SetNumbers key v) (set_left s.sizes after r) h (rw (d, e) (room-only s.sizes after r done.0)) (λ S. set_of-kept (room_for s) (table_of s) key v (sound-formed s S))
+      (subst (λ (o : Outcome). Does s o (set_left s.sizes after r)) (sym (set_key_lem (room_for s) (table_of s) key v d k e)) done.1)
+      (subst (λ (l : Slices). WordSized l.array) same a)
+      (subst (λ (l : Slices). WordSized l.entries) same w)

@@ -9,7 +9,7 @@ use lib.ListN.{length}
 use borrow.Author.Tests.{le-leb, lt-leb, lt-ltb, le-ltb}
 use Rattle.value.specs.declared.Words.{Words}
 use Rattle.value.specs.Same.{nil}
-use Rattle.key.specs.Refusals.{no_room}
+use Rattle.value.specs.Refusals.{no_room}
 use Rattle.key.specs.Canonical.{integer}
 use Rattle.model.specs.Entries.{Entry, Each, keep, live}
 use Rattle.model.specs.Table.{Room, Table, lookup}

@@ -5,17 +5,16 @@ use mathlib.Core.Logic.{◌⊎◌, inl, inr}
 use Prim.Native.Nat.{ℕ}
 use native.Mathlib.Omega.{arith}
 use Rattle.value.specs.declared.Words.{Words}
-use Rattle.key.specs.Refusals.{wrong_shape}
+use Rattle.value.specs.Refusals.{wrong_shape}
+use Rattle.value.proofs.Refusals.{numbered, number-one}
 use Rattle.model.specs.Calls.{Outcome}
 use Rattle.store.specs.declared.Record.{Record}
 use Rattle.store.specs.Store.{Slices, Store}
 use Rattle.store.specs.Shape.{Shaped}
 use Rattle.store.specs.Written.{Sound}
-use Rattle.writes.specs.declared.SetWords.{SetWords}
-use Rattle.writes.specs.declared.SetWords.TheVariants.{Done as SetDoes, No as SetNo}
-use Rattle.writes.specs.declared.Reserved.{Reserved}
-use Rattle.writes.specs.declared.Reserved.TheVariants.{Done as ReserveDoes, No as ReserveNo}
-use Rattle.writes.specs.Writes.{Left, set_left, reserve_left, Promised, SetNumbered, ReserveNumbered, SetDone, ReserveDone}
+use Rattle.writes.specs.Writes.{Left, set_left, reserve_left, Promised, SetDone, ReserveDone}
+use Rattle.std.specs.Prelude.{Result, Ok, Err}
+use Rattle.value.specs.declared.refusal.Refusal.{Refusal}
 
 -- what two calls left, where one promise holds of both
 record Alike (x y : Left) : Type 0 where
@@ -37,20 +36,20 @@ alike {x = x} {y = y} (inr w) p q =
       more = λ r. absurd (omega arith);
     }
 
-set-one : (before : Record) (a b : Slices) (r t : SetWords) → SetNumbered r → SetNumbered t → Alike (set_left before a r) (set_left before b t) → (a ≡ b) × (r ≡ t)
-set-one before a b (SetDoes p r) (SetDoes q t) m n e = let l = e.more refl in (e.slices, λ j. SetDoes (l j).previous (l j).store.sizes)
-set-one before a b (SetDoes p r) (SetNo k) m n e = absurd (omega (arith, n, e.refusal))
-set-one before a b (SetNo k) (SetDoes q t) m n e = absurd (omega (arith, m, e.refusal))
-set-one before a b (SetNo k) (SetNo h) m n e = (e.slices, ap SetNo e.refusal)
+set-one : (before : Record) (a b : Slices) (r t : Result (Words × Record) Refusal) → Alike (set_left before a r) (set_left before b t) → (a ≡ b) × (r ≡ t)
+set-one before a b (Ok (p, r)) (Ok (q, t)) e = let l = e.more refl in (e.slices, λ j. Ok ((l j).previous, (l j).store.sizes))
+set-one before a b (Ok (p, r)) (Err k) e = absurd (omega (arith, numbered k, e.refusal))
+set-one before a b (Err k) (Ok (q, t)) e = absurd (omega (arith, numbered k, e.refusal))
+set-one before a b (Err k) (Err h) e = (e.slices, ap Err (number-one k h e.refusal))
 
-reserve-one : (before : Record) (a b : Slices) (r t : Reserved) → ReserveNumbered r → ReserveNumbered t → Alike (reserve_left before a r) (reserve_left before b t) → (a ≡ b) × (r ≡ t)
-reserve-one before a b (ReserveDoes r) (ReserveDoes t) m n e = let l = e.more refl in (e.slices, λ j. ReserveDoes (l j).store.sizes)
-reserve-one before a b (ReserveDoes r) (ReserveNo k) m n e = absurd (omega (arith, n, e.refusal))
-reserve-one before a b (ReserveNo k) (ReserveDoes t) m n e = absurd (omega (arith, m, e.refusal))
-reserve-one before a b (ReserveNo k) (ReserveNo h) m n e = (e.slices, ap ReserveNo e.refusal)
+reserve-one : (before : Record) (a b : Slices) (r t : Result Record Refusal) → Alike (reserve_left before a r) (reserve_left before b t) → (a ≡ b) × (r ≡ t)
+reserve-one before a b (Ok r) (Ok t) e = let l = e.more refl in (e.slices, λ j. Ok (l j).store.sizes)
+reserve-one before a b (Ok r) (Err k) e = absurd (omega (arith, numbered k, e.refusal))
+reserve-one before a b (Err k) (Ok t) e = absurd (omega (arith, numbered k, e.refusal))
+reserve-one before a b (Err k) (Err h) e = (e.slices, ap Err (number-one k h e.refusal))
 
-pub set-unique : (s : Store) (key v : Words) (a b : Slices) (r t : SetWords) → Sound s ⊎ (Shaped s → ⊥) → SetDone s key v a r → SetDone s key v b t → (a ≡ b) × (r ≡ t)
-set-unique s key v a b r t w p q = set-one s.sizes a b r t p.0 q.0 (alike w p.1 q.1)
+pub set-unique : (s : Store) (key v : Words) (a b : Slices) (r t : Result (Words × Record) Refusal) → Sound s ⊎ (Shaped s → ⊥) → SetDone s key v a r → SetDone s key v b t → (a ≡ b) × (r ≡ t)
+set-unique s key v a b r t w p q = set-one s.sizes a b r t (alike w p q)
 
-pub reserve-unique : (s : Store) (n : ℕ) (a b : Slices) (r t : Reserved) → Sound s ⊎ (Shaped s → ⊥) → ReserveDone s n a r → ReserveDone s n b t → (a ≡ b) × (r ≡ t)
-reserve-unique s n a b r t w p q = reserve-one s.sizes a b r t p.0 q.0 (alike w p.1 q.1)
+pub reserve-unique : (s : Store) (n : ℕ) (a b : Slices) (r t : Result Record Refusal) → Sound s ⊎ (Shaped s → ⊥) → ReserveDone s n a r → ReserveDone s n b t → (a ≡ b) × (r ≡ t)
+reserve-unique s n a b r t w p q = reserve-one s.sizes a b r t (alike w p q)

@@ -1,8 +1,7 @@
 -- The roads of a set, beneath the public call: growth into the array and into the entries, a key that has no place, a canonical key.
 -- Assumes nothing.
-use Rattle.std.specs.Prelude.{◌≡◌, false, ℕ, length}
+use Rattle.std.specs.Prelude.{◌≡◌, false, ℕ, length, Result, Ok, Err}
 use Rattle.value.specs.declared.Words.{Words}
-use Rattle.key.specs.Refusals.{no_room}
 use Rattle.index.specs.Home.{home_of}
 use Rattle.index.specs.Index.{reached, is_empty}
 use Rattle.model.specs.Entries.{has}
@@ -12,14 +11,14 @@ use Rattle.model.specs.Calls.{write_array, append, grow, set_key}
 use Rattle.store.specs.declared.Record.{Record}
 use Rattle.store.specs.Store.{Slices, Store, lengths_of, room_for}
 use Rattle.store.specs.Written.{written, Sound, table_of}
-use Rattle.writes.specs.declared.SetWords.{SetWords}
-use Rattle.writes.specs.declared.SetWords.TheVariants.{Done as SetDoes, No as SetNo}
 use Rattle.writes.specs.Writes.{set_left, written_out, Does}
+use Rattle.value.specs.declared.refusal.Refusal.{Refusal}
+use Rattle.value.specs.declared.refusal.Refusal.TheVariants.{NoRoom}
 
 -- beneath the public call, a set refuses for want of room only
-abbrev pub RefusesRoom : SetWords → Type 0
-RefusesRoom (SetDoes p r) = Unit {0}
-RefusesRoom (SetNo n) = n ≡ no_room
+abbrev pub RefusesRoom : Result (Words × Record) Refusal → Type 0
+RefusesRoom (Ok (p, r)) = Unit {0}
+RefusesRoom (Err e) = e ≡ NoRoom
 
 -- growth to an array of size S, the new pair in the array, or among the entries
 abbrev pub ArrayGrown : Store → ℕ → Words → Words → Store → Type 0
@@ -31,7 +30,7 @@ EntryGrown before S k v after =
     Sound before
     → after ≡ written (lengths_of before.slices) (append t k v (grown_allowance (room_for before).entry_room (length t.entries) t.allowance))
 
-abbrev pub GrowDone : Store → Words → Words → Slices → SetWords → Type 0
+abbrev pub GrowDone : Store → Words → Words → Slices → Result (Words × Record) Refusal → Type 0
 GrowDone before k v after r = RefusesRoom r × Does before (grow (room_for before) (table_of before) k v) (set_left before.sizes after r)
 
 abbrev pub with_count : Record → ℕ → Record
@@ -43,11 +42,11 @@ pub record AbsentAt (s : Store) (place : ℕ) (k : Words) : Type 0 where
   pub absent : has (table_of s).entries k ≡ false
   pub here : place ≡ reached is_empty s.slices.index (home_of (length s.slices.index) k)
 
-pub record AbsentDoes (before : Store) (place : ℕ) (k v : Words) (after : Slices) (r : SetWords) : Type 0 where
+pub record AbsentDoes (before : Store) (place : ℕ) (k v : Words) (after : Slices) (r : Result (Words × Record) Refusal) : Type 0 where
   pub number : RefusesRoom r
   pub refused : ((set_left before.sizes after r).refusal ≡ 0 → ⊥) → (set_left before.sizes after r).store ≡ before
   pub sound : Sound before → AbsentAt before place k
       → set_left before.sizes after r ≡ written_out (lengths_of before.slices) (set_key (room_for before) (table_of before) k v)
 
-abbrev pub KeyDone : Store → Words → Words → Slices → SetWords → Type 0
+abbrev pub KeyDone : Store → Words → Words → Slices → Result (Words × Record) Refusal → Type 0
 KeyDone before k v after r = RefusesRoom r × Does before (set_key (room_for before) (table_of before) k v) (set_left before.sizes after r)

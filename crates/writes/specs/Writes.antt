@@ -1,19 +1,16 @@
 -- What a call that writes promises (01, 'Calls', 'Growth' and 'Refusal numbers'), in three clauses: the shape; any refusal on any words; and
 -- on a sound store the table's outcome, written out. Assumes nothing.
-use Rattle.std.specs.Prelude.{◌≡◌, cond, ◌⊎◌, ℕ, ◌<◌}
+use Rattle.std.specs.Prelude.{◌≡◌, cond, ◌⊎◌, ℕ, Result, Ok, Err}
 use Rattle.value.specs.declared.Words.{Words}
 use Rattle.value.specs.Same.{nil}
-use Rattle.key.specs.Refusals.{no_room, wrong_shape, no_value}
+use Rattle.value.specs.Refusals.{no_room, wrong_shape, no_value, refusal_number}
 use Rattle.key.specs.Canonical.{canonical_key, on_key}
 use Rattle.model.specs.Calls.{Outcome, are_values, set_of, reserve_of}
 use Rattle.store.specs.declared.Record.{Record}
 use Rattle.store.specs.Store.{Slices, Store, store, Lengths, lengths_of, room_for}
 use Rattle.store.specs.Shape.{Shaped}
 use Rattle.store.specs.Written.{written, Sound, table_of}
-use Rattle.writes.specs.declared.SetWords.{SetWords}
-use Rattle.writes.specs.declared.SetWords.TheVariants.{Done as SetDoes, No as SetNo}
-use Rattle.writes.specs.declared.Reserved.{Reserved}
-use Rattle.writes.specs.declared.Reserved.TheVariants.{Done as ReserveDoes, No as ReserveNo}
+use Rattle.value.specs.declared.refusal.Refusal.{Refusal}
 
 -- what a call leaves, in the paper's words: the refusal number, the previous value, and the store
 pub record Left : Type 0 where
@@ -24,23 +21,14 @@ pub record Left : Type 0 where
 abbrev pub left : ℕ → Words → Store → Left
 left n p s = record { refusal = n; previous = p; store = s }
 
--- for each case of an answer: a refusal answers a number only, and leaves the record that was passed
-abbrev pub set_left : Record → Slices → SetWords → Left
-set_left before after (SetDoes p r) = left 0 p (store after r)
-set_left before after (SetNo n) = left n nil (store after before)
+-- for each case of an answer: a refusal answers its number only, and leaves the record that was passed
+abbrev pub set_left : Record → Slices → Result (Words × Record) Refusal → Left
+set_left before after (Ok (p, r)) = left 0 p (store after r)
+set_left before after (Err e) = left (refusal_number e) nil (store after before)
 
-abbrev pub reserve_left : Record → Slices → Reserved → Left
-reserve_left before after (ReserveDoes r) = left 0 nil (store after r)
-reserve_left before after (ReserveNo n) = left n nil (store after before)
-
--- a refusal has a number
-abbrev pub SetNumbered : SetWords → Type 0
-SetNumbered (SetDoes p r) = Unit {0}
-SetNumbered (SetNo n) = 0 < n
-
-abbrev pub ReserveNumbered : Reserved → Type 0
-ReserveNumbered (ReserveDoes r) = Unit {0}
-ReserveNumbered (ReserveNo n) = 0 < n
+abbrev pub reserve_left : Record → Slices → Result Record Refusal → Left
+reserve_left before after (Ok r) = left 0 nil (store after r)
+reserve_left before after (Err e) = left (refusal_number e) nil (store after before)
 
 -- a table's outcome, written out in slices of these lengths
 abbrev pub written_out : Lengths → Outcome → Left
@@ -70,8 +58,8 @@ set_outcome s key v = set_of (room_for s) (table_of s) key v
 abbrev pub reserve_outcome : Store → ℕ → Outcome
 reserve_outcome s n = reserve_of (room_for s) (table_of s) n
 
-abbrev pub SetDone : Store → Words → Words → Slices → SetWords → Type 0
-SetDone before key v after r = SetNumbered r × Promised before (set_outcome before key v) (SetNumbers key v) (set_left before.sizes after r)
+abbrev pub SetDone : Store → Words → Words → Slices → Result (Words × Record) Refusal → Type 0
+SetDone before key v after r = Promised before (set_outcome before key v) (SetNumbers key v) (set_left before.sizes after r)
 
-abbrev pub ReserveDone : Store → ℕ → Slices → Reserved → Type 0
-ReserveDone before n after r = ReserveNumbered r × Promised before (reserve_outcome before n) RoomOnly (reserve_left before.sizes after r)
+abbrev pub ReserveDone : Store → ℕ → Slices → Result Record Refusal → Type 0
+ReserveDone before n after r = Promised before (reserve_outcome before n) RoomOnly (reserve_left before.sizes after r)

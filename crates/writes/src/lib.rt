@@ -1,9 +1,10 @@
 // The calls that write (the original's RawTable::set with its growth, and reserve_map), on stored words. A public call tests the shape first
 // and assumes nothing; the functions beneath are lent a store of right shape. Of the words nothing is assumed. Every refusal is decided before
-// the first word is written.
+// the first word is written. The slices and the record stay four parameters: of a struct that holds slices lent to be written, no two fields can
+// be lent to one call yet, as taking an entry out of the index and appending one need.
 #![tactic(auto)]
 
-ghost use Rattle.std.specs.Prelude.{◌≡◌, true, ◌+◌, ◌*◌, ◌/◌, ◌^◌, ◌<◌, ◌≤◌, max, length, set};
+ghost use Rattle.std.specs.Prelude.{◌≡◌, true, ◌+◌, ◌*◌, ◌/◌, ◌^◌, ◌<◌, ◌≤◌, length, set};
 ghost use Rattle.lent.specs.Lent.{put_entry};
 ghost use Rattle.index.specs.Index.{word_bits};
 ghost use Rattle.model.specs.Table.{within};
@@ -15,22 +16,9 @@ ghost use Rattle.writes.specs.Writes.{SetDone, ReserveDone};
 ghost use Rattle.writes.specs.Roads.{ArrayGrown, EntryGrown, with_count, GrowDone, AbsentDoes, KeyDone};
 
 use index::{Found, Word};
-use key::CanonicalKey;
+use lent::Entries;
 use store::Record;
-use value::Words;
-
-#[derive(Clone, Copy)]
-pub enum SetWords {
-    // the previous value, and the record after the call
-    Done(Words, Record),
-    No(u8),
-}
-
-#[derive(Clone, Copy)]
-pub enum Reserved {
-    Done(Record),
-    No(u8),
-}
+use value::{Refusal, Words};
 
 // Growth that leads the new key into the array.
 fn grow_array(
@@ -68,7 +56,11 @@ fn grow_entries(
     let grown = rehash::rehash(array, entries, index, sizes, size, first);
     let n = grown.count;
     lent::put_entry(entries, n, key, v);
-    index::place_from(entries, index, n, n + 1);
+    let after = Entries {
+        words: entries,
+        count: n + 1,
+    };
+    index::place_from(&after, index, n);
     Record {
         size: size,
         allowance: growth::grown_allowance(entries.len() / 4, n, grown.allowance),
@@ -84,25 +76,25 @@ fn grow(
     sizes: Record,
     key: Words,
     v: Words,
-) -> SetWords
+) -> Result<(Words, Record), Refusal>
     requires { Shaped (store_of array.old entries.old index.old sizes) }
     ensures { GrowDone (store_of array.old entries.old index.old sizes) key v (slices array.new entries.new index.new) result }
 {
     let size = growth::array_size(array, entries, sizes, key);
-    let staying = rehash::survey(entries, sizes.count, size);
+    let before = Entries {
+        words: entries,
+        count: sizes.count,
+    };
+    let staying = rehash::survey(&before, size);
     if store::is_within(key, size) {
-        return SetWords::Done(
-            value::nil(),
-            grow_array(array, entries, index, sizes, size, staying.first, key, v),
-        );
+        let after = grow_array(array, entries, index, sizes, size, staying.first, key, v);
+        return Ok((Words::NIL, after));
     }
     if entries.len() / 4 <= staying.number {
-        return SetWords::No(key::NO_ROOM);
+        return Err(Refusal::NoRoom);
     }
-    SetWords::Done(
-        value::nil(),
-        grow_entries(array, entries, index, sizes, size, staying.first, key, v),
-    )
+    let after = grow_entries(array, entries, index, sizes, size, staying.first, key, v);
+    Ok((Words::NIL, after))
 }
 
 // A new entry, where the search for its key stopped.
@@ -123,9 +115,8 @@ fn append(
     lent::put_entry(entries, n, key, v);
     index::place_at(index, place, n);
     Record {
-        size: sizes.size,
-        allowance: sizes.allowance,
         count: n + 1,
+        ..sizes
     }
 }
 
@@ -138,15 +129,15 @@ fn set_absent(
     place: usize,
     key: Words,
     v: Words,
-) -> SetWords
+) -> Result<(Words, Record), Refusal>
     requires { Shaped (store_of array.old entries.old index.old sizes) × (place < length index.old) }
     ensures { AbsentDoes (store_of array.old entries.old index.old sizes) place key v (slices array.new entries.new index.new) result }
 {
-    if value::is_nil(v) {
-        return SetWords::Done(value::nil(), sizes);
+    if v.is_nil() {
+        return Ok((Words::NIL, sizes));
     }
     if sizes.count < sizes.allowance {
-        return SetWords::Done(value::nil(), append(entries, index, sizes, place, key, v));
+        return Ok((Words::NIL, append(entries, index, sizes, place, key, v)));
     }
     grow(array, entries, index, sizes, key, v)
 }
@@ -159,17 +150,21 @@ fn set_key(
     sizes: Record,
     key: Words,
     v: Words,
-) -> SetWords
+) -> Result<(Words, Record), Refusal>
     requires { Shaped (store_of array.old entries.old index.old sizes) }
     ensures { KeyDone (store_of array.old entries.old index.old sizes) key v (slices array.new entries.new index.new) result }
 {
     if store::is_within(key, sizes.size) {
-        return SetWords::Done(lent::put_value(array, store::place_of(key), v), sizes);
+        return Ok((lent::put_value(array, store::place_of(key), v), sizes));
     }
-    match index::search(entries, sizes.count, index, key) {
-        Found::At(i) => SetWords::Done(lent::put_value(entries, 2 * i + 1, v), sizes),
+    let in_use = Entries {
+        words: entries,
+        count: sizes.count,
+    };
+    match index::search(&in_use, index, key) {
+        Found::At(i) => Ok((lent::put_value(entries, 2 * i + 1, v), sizes)),
         Found::Absent(place) => set_absent(array, entries, index, sizes, place, key, v),
-        Found::Full => SetWords::No(key::NO_ROOM),
+        Found::Full => Err(Refusal::NoRoom),
     }
 }
 
@@ -177,11 +172,7 @@ fn set_key(
 fn are_values(key: Words, v: Words) -> bool
     ensures { result ≡ are_values key v }
 {
-    if lent::decodable(key) {
-        lent::decodable(v)
-    } else {
-        false
-    }
+    lent::decodable(key) && lent::decodable(v)
 }
 
 pub fn set_words(
@@ -191,26 +182,17 @@ pub fn set_words(
     sizes: Record,
     key: Words,
     v: Words,
-) -> SetWords
+) -> Result<(Words, Record), Refusal>
     ensures { SetDone (store_of array.old entries.old index.old sizes) key v (slices array.new entries.new index.new) result }
 {
     if !store::right_shape(array.len(), entries.len(), index.len(), sizes) {
-        return SetWords::No(key::WRONG_SHAPE);
+        return Err(Refusal::WrongShape);
     }
     if !are_values(key, v) {
-        return SetWords::No(key::NO_VALUE);
+        return Err(Refusal::NoValue);
     }
-    let canonical = key::canonical_key(key);
-    let CanonicalKey::Key(k) = canonical else {
-        return SetWords::No(key::refusal(canonical));
-    };
+    let k = key::canonical_key(key)?;
     set_key(array, entries, index, sizes, k, v)
-}
-
-fn larger(a: usize, b: usize) -> usize
-    ensures { result ≡ max a b }
-{
-    if a < b { b } else { a }
 }
 
 // Room for n entries more.
@@ -220,24 +202,27 @@ pub fn reserve(
     index: &mut [Word],
     sizes: Record,
     n: usize,
-) -> Reserved
+) -> Result<Record, Refusal>
     ensures { ReserveDone (store_of array.old entries.old index.old sizes) n (slices array.new entries.new index.new) result }
 {
     if !store::right_shape(array.len(), entries.len(), index.len(), sizes) {
-        return Reserved::No(key::WRONG_SHAPE);
+        return Err(Refusal::WrongShape);
     }
     if n <= sizes.allowance - sizes.count {
-        return Reserved::Done(sizes);
+        return Ok(sizes);
     }
-    let staying = rehash::survey(entries, sizes.count, sizes.size);
+    let before = Entries {
+        words: entries,
+        count: sizes.count,
+    };
+    let staying = rehash::survey(&before, sizes.size);
     let room = entries.len() / 4;
     if room - staying.number < n {
-        return Reserved::No(key::NO_ROOM);
+        return Err(Refusal::NoRoom);
     }
     let kept = rehash::rehash(array, entries, index, sizes, sizes.size, staying.first);
-    Reserved::Done(Record {
-        size: kept.size,
-        allowance: larger(sizes.allowance, kept.count + n),
-        count: kept.count,
+    Ok(Record {
+        allowance: sizes.allowance.max(kept.count + n),
+        ..kept
     })
 }

@@ -1,9 +1,10 @@
--- `checks::run` ends: each record ends further on. Assumes nothing.
-use Rattle.std.proofs.Common.{length, ◌-◌, ◌≤◌}
+-- `checks::run` ends: after each record fewer words are left. Assumes nothing.
+use Rattle.std.proofs.Common.{length, ◌≤◌}
+use Rattle.console.specs.Input.{word_room}
 use Rattle.checks.proofs.run.Given as goal
 
-abbrev pub invariant-loop-at : goal.invariant-loop-at
-invariant-loop-at g l = l.at ≤ length l.words
+abbrev pub invariant-loop-words : goal.invariant-loop-words
+invariant-loop-words g l = length l.words ≤ word_room
 
-abbrev pub decreases-loop-at : goal.decreases-loop-at
-decreases-loop-at g l = length l.words - l.at
+abbrev pub decreases-loop-words : goal.decreases-loop-words
+decreases-loop-words g l = length l.words

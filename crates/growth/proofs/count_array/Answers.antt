@@ -1,60 +1,34 @@
--- `growth::count_array` meets its contract: the values before place `from`, or all, are counted. Assumes nothing.
-use mathlib.Core.Path.{◌≡◌}
-use Prim.Native.Nat.{min}
-use native.Mathlib.Omega.{arith}
+-- `growth::count_array` meets its contract: the values at places below a class are counted. Assumes nothing.
+use Rattle.std.proofs.Common.{◌≡◌, ◌+◌, arith}
+use Rattle.std.proofs.lemmas.List.{set-get_or}
+use Rattle.std.proofs.lemmas.Nat.{one_shl}
+use Rattle.store.specs.Limits.{class_counts}
 use Rattle.store.specs.Written.{pair_at}
-use Rattle.lent.specs.Lent.{value_at}
-use Rattle.model.proofs.Places.{array-tabulate}
-use Rattle.growth.proofs.Steps.{counted_none, counted-most}
+use Rattle.growth.proofs.Steps.{counted-most}
 use Rattle.growth.proofs.Turns.{firsts-le}
-use Rattle.growth.proofs.Ranges.{range-start, range-next, range-up, range-counted, range-turn}
+use Rattle.growth.proofs.Ranges.{places_below, half, range-turn, range-all}
 use Rattle.growth.proofs.count_array.Goals as goal
-use Rattle.growth.proofs.count_array.Goals.{then-to-size, else-to-size}
 
-pub loop-from-init : goal.loop-from-init
-loop-from-init c =
+pub overflow_add-count : goal.overflow_add-count
+overflow_add-count c =
+    let from = c.loop-class.from in
+    let most = counted-most 1 from c.requires.2 c.loop-class.invariant.1 (firsts-le (pair_at c.args.array.now) from) in
+    omega (arith, most.each c.loop-class.class)
+
+pub loop-class-preserved : goal.loop-class-preserved
+loop-class-preserved c =
     let a = c.args in
-    let none : min 0 a.size ≡ 0 = omega arith in
-    (range-start, rw none (counted_none a.counts c.requires.2.long))
+    let class = c.loop-class.class in
+    let to : c.min-to.result ≡ places_below (class + 1) a.size = omega (arith, half class, one_shl class 64 (omega arith), c.min-to.ensures) in (
+      to,
+      range-turn a.array.now class a.size c.loop-class.from _ c.count_values.result (omega arith) (omega arith) c.loop-class.invariant.0 to
+          c.loop-class.invariant.1 c.count_values.ensures.0,
+    )
 
-pub count_values-requires : goal.count_values-requires
-count_values-requires c =
-    let up = range-up c.loop-from.invariant.0 in
-    elim c.if-to-size.branch [ then-to-size w ↦ omega arith | else-to-size w ↦ omega arith ]
+pub returns-then-from-size : goal.returns-then-from-size
+returns-then-from-size c = rw set-get_or (range-all c.args.array.now c.if-from-size.true c.loop-class.invariant.1)
 
-pub add-d-requires : goal.add-d-requires
-add-d-requires c =
-    let n = min c.loop-from.from c.args.size in
-    let most = counted-most 1 n c.requires.2 c.loop-from.invariant.1 (firsts-le (pair_at c.args.array.now) n) in
-    let small = most.each c.loop-from.class in
-    let values = c.count_values.ensures.1 in
-    (most.long, range-counted c.loop-from.invariant.0 (omega arith), elim c.if-to-size.branch [ then-to-size w ↦ omega arith | else-to-size w ↦ omega arith ])
-
-pub overflow_mul-to : goal.overflow_mul-to
-overflow_mul-to c =
-    let r = c.loop-from.invariant.0 in
-    omega (arith, r.bottom)
-
-pub overflow_add-class : goal.overflow_add-class
-overflow_add-class c =
-    omega (arith, range-counted c.loop-from.invariant.0 (omega arith))
-
-pub loop-from-smaller : goal.loop-from-smaller
-loop-from-smaller c =
-    omega (arith, range-counted c.loop-from.invariant.0 (omega arith))
-
-pub loop-from-preserved : goal.loop-from-preserved
-loop-from-preserved c =
-    let values = c.count_values in
-    let a = c.args in
-    let r = c.loop-from.invariant.0 in
-    let end = c.if-to-size.end in
-    let most : end ≡ min c.loop-from.to a.size = elim c.if-to-size.branch [ then-to-size w ↦ omega arith | else-to-size w ↦ omega arith ] in
-    let turn = range-turn a.array.now a.size end values.result r (omega arith) (omega arith) most c.loop-from.invariant.1 values.ensures.0 in
-    (range-next r, rw c.add-d.ensures turn)
-
-pub returns : goal.returns
-returns c =
-    let a = c.args in
-    let all : min c.loop-from.from a.size ≡ a.size = omega arith in
-    rw (array-tabulate a.size (value_at a.array.now) 0, ← all) c.loop-from.invariant.1
+pub returns-after-loop-class : goal.returns-after-loop-class
+returns-after-loop-class c =
+    let last : c.loop-class.class ≡ class_counts = omega arith in
+    range-all c.args.array.now (omega (arith, rw last at c.loop-class.invariant.0)) c.loop-class.invariant.1

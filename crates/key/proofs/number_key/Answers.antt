@@ -1,17 +1,15 @@
 -- `key::number_key` meets its contract. Assumes nothing.
 use mathlib.Core.Path.{◌≡◌, sym, ap, ◌∙◌, subst}
-use mathlib.Core.Bool.{false}
+use mathlib.Core.Bool.{Bool, false}
 use Prim.Native.Nat.{ℕ}
 use lib.Ieee.{binary64, of_bits, nan_bits}
+use Rattle.std.specs.Prelude.{Option, None, Ok}
 use Rattle.key.specs.Canonical.{whole_of, key_of, number_key}
-use Rattle.key.specs.declared.Whole.{Whole}
-use Rattle.key.specs.declared.Whole.TheVariants.{Not}
-use Rattle.key.specs.declared.CanonicalKey.TheVariants.{Key}
 use Rattle.key.proofs.Ratios.{Small, small}
 use Rattle.key.proofs.number_key.Goals as goal
 
 -- past the test for a NaN
-past : (b : ℕ) (w : Whole) → nan_bits binary64 b ≡ false → w ≡ whole_of (of_bits binary64 b) → Key (key_of b w) ≡ number_key b
+past : (b : ℕ) (w : Option (Bool × ℕ)) → nan_bits binary64 b ≡ false → w ≡ whole_of (of_bits binary64 b) → Ok (key_of b w) ≡ number_key b
 unfolding number_key
 past b w h e = rw (h, e)
 
@@ -20,10 +18,10 @@ unfolding number_key
 returns-then-is_nan c = simp (sym c.is_nan.ensures ∙ c.if-is_nan.true)
 
 pub whole_key-requires : goal.whole_key-requires
-whole_key-requires c = subst Small (sym c.whole_of_bits.ensures ∙ c.in-Is.is) (small (of_bits binary64 c.args.bits))
+whole_key-requires c = subst Small (sym c.whole_of_bits.ensures ∙ c.in-Some.is) (small (of_bits binary64 c.args.bits))
 
-pub returns-in-Is : goal.returns-in-Is
-returns-in-Is c = ap Key c.whole_key.ensures ∙ past c.args.bits _ (sym c.is_nan.ensures ∙ c.if-is_nan.false) (sym c.in-Is.is ∙ c.whole_of_bits.ensures)
+pub returns-in-Some : goal.returns-in-Some
+returns-in-Some c = ap Ok c.whole_key.ensures ∙ past c.args.bits _ (sym c.is_nan.ensures ∙ c.if-is_nan.false) (sym c.in-Some.is ∙ c.whole_of_bits.ensures)
 
-pub returns-in-Not : goal.returns-in-Not
-returns-in-Not c = past c.args.bits Not (sym c.is_nan.ensures ∙ c.if-is_nan.false) (sym c.in-Not.is ∙ c.whole_of_bits.ensures)
+pub returns-in-None : goal.returns-in-None
+returns-in-None c = ap Ok c.new.ensures ∙ past c.args.bits None (sym c.is_nan.ensures ∙ c.if-is_nan.false) (sym c.in-None.is ∙ c.whole_of_bits.ensures)

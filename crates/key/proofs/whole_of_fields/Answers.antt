@@ -3,15 +3,16 @@ use mathlib.Core.Path.{sym, ap}
 use Prim.Native.Nat.{ℕ, ◌+◌, ◌*◌, ◌^◌}
 use Rattle.key.proofs.Ratios.{zero_field, subnormal, fraction, large, middle-is, middle-not, upper_is, upper-large, upper_fits}
 use Rattle.key.proofs.whole_of_fields.Goals as goal
+use Rattle.key.proofs.whole_of_fields.Goals.{else-exponent-eq0-via-then-exponent-eq0+else-digits-eq0, else-exponent-eq0-via-else-exponent-eq0}
 
 pub returns-then-digits-eq0 : goal.returns-then-digits-eq0
 returns-then-digits-eq0 c = rw (c.if-exponent-eq0.true, c.if-digits-eq0.true) (sym (zero_field c.args.negative))
 
-pub returns-else-digits-eq0 : goal.returns-else-digits-eq0
-returns-else-digits-eq0 c = rw c.if-exponent-eq0.true (sym (subnormal c.args.negative c.args.digits c.if-digits-eq0.false c.requires))
-
-pub returns-else-exponent-eq0 : goal.returns-else-exponent-eq0
-returns-else-exponent-eq0 c = sym (fraction c.args.negative c.args.exponent c.args.digits c.if-exponent-eq0.false c.if-exponent-lt1023.true c.requires)
+pub returns-then-exponent-lt1023 : goal.returns-then-exponent-lt1023
+returns-then-exponent-lt1023 c = elim c.else-exponent-eq0.branch [
+  | else-exponent-eq0-via-then-exponent-eq0+else-digits-eq0 w ↦ rw w.if-exponent-eq0.true (sym (subnormal c.args.negative c.args.digits w.if-digits-eq0.false c.requires))
+  | else-exponent-eq0-via-else-exponent-eq0 w ↦ sym (fraction c.args.negative c.args.exponent c.args.digits w.if-exponent-eq0.false c.if-exponent-lt1023.true c.requires)
+]
 
 pub returns-then-exponent-gt1086 : goal.returns-then-exponent-gt1086
 returns-then-exponent-gt1086 c = sym (large c.args.negative c.args.exponent c.args.digits c.if-exponent-gt1086.true)

@@ -1,20 +1,12 @@
 -- `reads::double` meets its contract: on a right index, what is left of the doubling gives the answer. Assumes nothing.
-use mathlib.Core.Path.{refl, sym, ◌∙◌}
+use mathlib.Core.Path.{sym, ◌∙◌}
 use mathlib.Core.Logic.{inl, inr}
 use Prim.Native.Nat.{◌*◌}
 use native.Mathlib.Omega.{arith}
 use Rattle.key.specs.Canonical.{largest}
-use Rattle.reads.proofs.Halving.{doubling-start, doubling-turn, doubling-end}
+use Rattle.reads.proofs.Halving.{doubling-turn, doubling-end}
 use Rattle.reads.proofs.Rounds.{last_less, doubled-less}
 use Rattle.reads.proofs.double.Goals as goal
-
-pub loop-max-init : goal.loop-max-init
-loop-max-init c =
-    (omega arith, omega arith, λ R. doubling-start _ _ c.args.from (omega arith) refl)
-
-pub has_entry-requires : goal.has_entry-requires
-has_entry-requires c =
-    (omega arith, omega arith)
 
 pub returns-then-not-has_entry : goal.returns-then-not-has_entry
 returns-then-not-has_entry c =

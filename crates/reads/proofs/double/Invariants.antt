@@ -10,7 +10,7 @@ use Rattle.reads.proofs.Rounds.{doublings}
 use Rattle.reads.proofs.double.Given as goal
 
 abbrev pub invariant-loop-max : goal.invariant-loop-max
-invariant-loop-max l = (l.from ≤ l.max) × (l.max ≤ largest) × (Right l.entries l.count l.index → Doubling (λ n. has (entries_in l.entries l.count) (integer n)) (double (λ n. has (entries_in l.entries l.count) (integer n)) 64 l.from) l.max)
+invariant-loop-max l = (l.from ≤ l.max) × (l.max ≤ largest) × (Right l.entries.words.now l.entries.count l.index → Doubling (λ n. has (entries_in l.entries.words.now l.entries.count) (integer n)) (double (λ n. has (entries_in l.entries.words.now l.entries.count) (integer n)) 64 l.from) l.max)
 
 abbrev pub decreases-loop-max : goal.decreases-loop-max
 decreases-loop-max l = doublings l.max

@@ -1,20 +1,11 @@
 -- `reads::halve` meets its contract: on a sound store, what is left of the halving gives the answer. Assumes nothing.
-use mathlib.Core.Path.{refl, sym, ◌∙◌}
+use mathlib.Core.Path.{sym, ◌∙◌}
 use mathlib.Core.Bool.{true, false}
 use Prim.Native.Nat.{◌-◌}
 use native.Mathlib.Omega.{arith}
-use Rattle.reads.proofs.Halving.{halving-start, halving-turn, halving-end}
+use Rattle.reads.proofs.Halving.{halving-turn, halving-end}
 use Rattle.reads.proofs.Rounds.{halved-less}
 use Rattle.reads.proofs.halve.Goals as goal
-
-pub loop-max-init : goal.loop-max-init
-loop-max-init c =
-    let a = c.args in
-    (omega arith, omega arith, λ S. halving-start _ _ a.low a.high (omega arith) refl)
-
-pub is_nil_at-requires : goal.is_nil_at-requires
-is_nil_at-requires c =
-    c.requires.0
 
 pub loop-max-smaller-then-is_nil_at : goal.loop-max-smaller-then-is_nil_at
 loop-max-smaller-then-is_nil_at c =

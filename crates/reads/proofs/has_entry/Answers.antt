@@ -6,15 +6,10 @@ use Rattle.reads.proofs.has_entry.Goals as goal
 
 pub returns-in-At : goal.returns-in-At
 returns-in-At c =
-    λ R. let a = c.args in
-    sym (has-by a.entries.now a.count a.index.now (integer a.n) c.search.result (c.search.ensures.right R) ∙ ap there_by c.in-At.is)
+    λ R. let e = c.args.entries.now in
+    sym (has-by e.words.now e.count c.args.index.now (integer c.args.n) c.search.result (rw c.new.ensures at (c.search.ensures.right R)) ∙ ap there_by c.in-At.is)
 
 pub returns-in-Absent : goal.returns-in-Absent
 returns-in-Absent c =
-    λ R. let a = c.args in
-    sym (has-by a.entries.now a.count a.index.now (integer a.n) c.search.result (c.search.ensures.right R) ∙ ap there_by c.in-Absent.is)
-
-pub returns-in-Full : goal.returns-in-Full
-returns-in-Full c =
-    λ R. let a = c.args in
-    sym (has-by a.entries.now a.count a.index.now (integer a.n) c.search.result (c.search.ensures.right R) ∙ ap there_by c.in-Full.is)
+    λ R. let e = c.args.entries.now in
+    sym (has-by e.words.now e.count c.args.index.now (integer c.args.n) c.search.result (rw c.new.ensures at (c.search.ensures.right R)) ∙ ap there_by c.in-Absent.is)

@@ -8,7 +8,4 @@ use Rattle.reads.proofs.Walking.{Walking}
 use Rattle.reads.proofs.next_entry.Given as goal
 
 abbrev pub invariant-loop-i : goal.invariant-loop-i
-invariant-loop-i l = Walking (first (tabulate (l.count - l.from) (entry_at l.entries) l.from)) (entry_at l.entries) l.count [] l.i
-
-abbrev pub decreases-loop-i : goal.decreases-loop-i
-decreases-loop-i l = l.count - l.i
+invariant-loop-i l = Walking (first (tabulate (l.entries.count - l.from) (entry_at l.entries.words.now) l.from)) (entry_at l.entries.words.now) l.entries.count [] l.i

@@ -8,8 +8,5 @@ use Rattle.reads.proofs.Walking.{Walking}
 use Rattle.reads.proofs.next_pair.Given as goal
 
 abbrev pub invariant-loop-i : goal.invariant-loop-i
-invariant-loop-i l = let rest = entries_in l.entries l.sizes.count in
-    Walking (first (tabulate (l.sizes.size - l.from) (pair_at l.array) l.from ++ rest)) (pair_at l.array) l.size rest l.i
-
-abbrev pub decreases-loop-i : goal.decreases-loop-i
-decreases-loop-i l = l.size - l.i
+invariant-loop-i l = let rest = entries_in l.view.entries.now l.view.sizes.count in
+    Walking (first (tabulate (l.view.sizes.size - l.from) (pair_at l.view.array.now) l.from ++ rest)) (pair_at l.view.array.now) l.view.sizes.size rest l.i

@@ -7,4 +7,4 @@ use Rattle.records.proofs.record_size.Goals as goal
 pub overflow_add-result : goal.overflow_add-result
 overflow_add-result c =
     let bs = c.args.input.now in
-    omega (arith, number-part 2 0 bs (search rules), c.number_at.ensures)
+    omega (arith, number-part 2 0 bs (search rules), c.number.ensures)

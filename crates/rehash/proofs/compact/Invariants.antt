@@ -1,10 +1,6 @@
 -- `rehash::compact` meets its contract. Assumes nothing.
-use Prim.Native.Nat.{◌-◌, ◌≤◌}
 use Rattle.rehash.specs.Rehash.{Compacted}
 use Rattle.rehash.proofs.compact.Given as goal
 
 abbrev pub invariant-loop-i : goal.invariant-loop-i
-invariant-loop-i l = (l.i ≤ l.count) × Compacted l.initial.array l.initial.entries l.first l.size l.i l.n l.array l.entries
-
-abbrev pub decreases-loop-i : goal.decreases-loop-i
-decreases-loop-i l = l.count - l.i
+invariant-loop-i l = Compacted l.initial.array l.initial.entries l.first l.size l.i l.n l.array l.entries

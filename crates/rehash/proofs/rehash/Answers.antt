@@ -12,10 +12,10 @@ returns-then-first-sizes c =
 pub returns : goal.returns
 returns c =
     let a = c.args in
-    rehashes a.array.now a.entries.now a.index.now a.sizes a.size a.first c.compact-n.result
+    rehashes a.array.now a.entries.now a.index.now a.sizes a.size a.first c.compact-count.result
     c.requires.1 c.requires.2 (omega arith)
-    c.take_out.new.index c.compact-n.new.array c.compact-n.new.entries
+    c.take_out.new.index c.compact-count.new.array c.compact-count.new.entries
     c.clear_entries.new.entries c.place_from.new.index
-    c.take_out.ensures c.compact-n.ensures c.clear_entries.ensures c.place_from.ensures
+    c.take_out.ensures c.compact-count.ensures c.clear_entries.ensures c.place_from.ensures
     c.clear_entries.auto.entries c.take_out.auto.index c.place_from.auto.index
     (λ e. absurd (c.if-first-sizes.false e))

@@ -1,7 +1,7 @@
 -- `replay::digest_of`: a remainder is below the modulus. Assumes nothing.
 use Rattle.std.proofs.Common.{◌<◌}
-use Rattle.replay.specs.Numbers.{modulus}
+use Rattle.replay.specs.declared.TheConstants.{MODULUS}
 use Rattle.replay.proofs.digest_of.Given as goal
 
-abbrev pub invariant-loop-i : goal.invariant-loop-i
-invariant-loop-i l = l.n < modulus
+abbrev pub invariant-loop-byte : goal.invariant-loop-byte
+invariant-loop-byte l = l.n < MODULUS

@@ -1,15 +1,11 @@
 -- `store::check` meets its contract: the clauses are soundness. Assumes nothing.
-use Rattle.lent.proofs.Says.{says-no, says_same, said-yes, said-no}
+use Rattle.lent.proofs.Says.{says-no, says_same, said-no}
 use Rattle.store.proofs.Sound.{clauses-sound, sound-clauses, sound-shaped}
 use Rattle.store.proofs.check.Goals as goal
 
-pub returns-then-not-right_shape : goal.returns-then-not-right_shape
-returns-then-not-right_shape c =
-    says-no (λ S. said-no c.right_shape.ensures c.if-not-right_shape.true (sound-shaped _ S))
-
-pub clauses_hold-requires : goal.clauses_hold-requires
-clauses_hold-requires c =
-    said-yes c.right_shape.ensures c.if-not-right_shape.false
+pub returns-then-not-is_shaped : goal.returns-then-not-is_shaped
+returns-then-not-is_shaped c =
+    says-no (λ S. said-no c.is_shaped.ensures c.if-not-is_shaped.true (sound-shaped _ S))
 
 pub returns : goal.returns
 returns c =

@@ -1,6 +1,7 @@
 -- `store::right_lengths` meets its contract: a test that fails breaks its clause, and the last one decides. Assumes nothing.
 use native.Mathlib.Omega.{arith}
 use Rattle.lent.proofs.Says.{says_same}
+use Rattle.store.proofs.Power.{says-power}
 use Rattle.store.proofs.right_lengths.Goals as goal
 
 pub returns : goal.returns
@@ -17,4 +18,4 @@ returns c =
       index_enough = omega arith;
     })
     (λ l. l.index_power)
-    c.is_power.ensures
+    (rw c.is_power_of_two.ensures (says-power c.args.index))

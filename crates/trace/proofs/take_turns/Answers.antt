@@ -1,32 +1,26 @@
 -- `trace::take_turns` meets its contract. Assumes nothing.
-use mathlib.Core.Path.{◌∙◌}
-use Rattle.store.specs.Store.{Store, store_of}
+use Rattle.std.proofs.Common.{sym, ◌∙◌, arith}
+use Rattle.std.proofs.lemmas.Result.{err_from_is_err_and}
 use Rattle.trace.proofs.Running.{running-start, running-turn, running-stops, running-unwritten, running-spent}
 use Rattle.trace.proofs.take_turns.Goals as goal
 
-pub loop-turns-init : goal.loop-turns-init
-loop-turns-init g c = running-start _ _ _ c.requires c.input_room-input.ensures c.output_room-output.ensures
+pub loop-init : goal.loop-init
+loop-init g c = running-start _ _ _ _ c.requires (sym c.room-input.ensures) (sym c.room-output.ensures)
 
-pub returns-then-not-t : goal.returns-then-not-t
-returns-then-not-t g c =
-    let first : Store = store_of c.args.array.now c.args.entries.now c.args.index.now c.args.sizes in
-    let after : Store = store_of c.turn-t.new.array c.turn-t.new.entries c.turn-t.new.index c.turn-t.result.sizes in
-    running-unwritten {s = first} {after = after} c.loop-turns.invariant c.turn-t.ensures c.loop-turns-test.true
+pub returns-in_err-send : goal.returns-in_err-send
+returns-in_err-send g c =
+    let failed = err_from_is_err_and c.from_residual.result c.from_residual.ensures.1 in
+    rw failed.1 (running-unwritten _ _ _ c.loop.invariant c.turn-got.ensures.answered c.turn-got.ensures.came failed.0 c.loop-test.true)
 
-pub returns-then-t : goal.returns-then-t
-returns-then-t g c =
-    let first : Store = store_of c.args.array.now c.args.entries.now c.args.index.now c.args.sizes in
-    let after : Store = store_of c.turn-t.new.array c.turn-t.new.entries c.turn-t.new.index c.turn-t.result.sizes in
-    running-stops {s = first} {after = after} c.loop-turns.invariant c.turn-t.ensures c.if-t.true c.loop-turns-test.true
+pub returns-then-progress : goal.returns-then-progress
+returns-then-progress g c =
+    running-stops _ _ _ c.loop.invariant c.turn-got.ensures.answered c.turn-got.ensures.came c.in_ok-send.ensures c.if-progress.true c.loop-test.true
 
-pub loop-turns-preserved : goal.loop-turns-preserved
-loop-turns-preserved g c =
-    let first : Store = store_of c.args.array.now c.args.entries.now c.args.index.now c.args.sizes in
-    let after : Store = store_of c.turn-t.new.array c.turn-t.new.entries c.turn-t.new.index c.turn-t.result.sizes in
-    let kept = c.turn-t.auto in
-    running-turn {s = first} {after = after} c.loop-turns.invariant c.turn-t.ensures c.if-t.false c.loop-turns-test.true
-    (record { array = kept.array; entries = kept.entries; index = kept.index }) _ _
+pub loop-preserved : goal.loop-preserved
+loop-preserved g c =
+    let kept = c.turn-got.auto in
+    running-turn _ _ _ c.loop.invariant c.turn-got.ensures.answered c.turn-got.ensures.came c.in_ok-send.ensures c.if-progress.false _ _
     (c.keep-held.auto.bytes ∙ kept.input) kept.output c.keep-held.ensures.0 c.keep-held.ensures.1
 
 pub returns : goal.returns
-returns g c = running-spent c.loop-turns.invariant c.loop-turns-test.false
+returns g c = running-spent _ _ c.loop.invariant (omega (arith, c.loop-test.false, c.loop.auto.counter-end))

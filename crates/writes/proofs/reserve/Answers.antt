@@ -2,12 +2,12 @@
 use mathlib.Core.Path.{refl}
 use mathlib.Core.Logic.{inl, inr}
 use native.Mathlib.Omega.{arith}
-use Rattle.key.specs.Refusals.{no_room}
+use Rattle.value.specs.Refusals.{no_room}
 use Rattle.lent.proofs.Says.{said-yes, said-no}
 use Rattle.model.proofs.Kept.{reserve-kept}
 use Rattle.store.specs.Store.{store_of}
 use Rattle.store.specs.Shape.{Shaped}
-use Rattle.store.proofs.Sound.{fits, sound-formed}
+use Rattle.store.proofs.Sound.{sound-formed}
 use Rattle.writes.specs.Writes.{RoomOnly}
 use Rattle.writes.proofs.Promises.{wrong-shape, unchanged, changed}
 use Rattle.writes.proofs.Reserving.{few, enough, too_many, dropped}
@@ -15,22 +15,14 @@ use Rattle.writes.proofs.reserve.Goals as goal
 
 pub returns-then-not-right_shape : goal.returns-then-not-right_shape
 returns-then-not-right_shape c =
-    (omega arith, wrong-shape _ (said-no c.right_shape.ensures c.if-not-right_shape.true))
-
-pub overflow_sub-sizes : goal.overflow_sub-sizes
-overflow_sub-sizes c =
-    (said-yes c.right_shape.ensures c.if-not-right_shape.false).count_fits
+    wrong-shape _ (said-no c.right_shape.ensures c.if-not-right_shape.true)
 
 pub returns-then-n-sizes : goal.returns-then-n-sizes
 returns-then-n-sizes c =
     let a = c.args in
     let s = store_of a.array.now a.entries.now a.index.now a.sizes in
     let h : Shaped s = said-yes c.right_shape.ensures c.if-not-right_shape.false in
-    (tt, unchanged s RoomOnly 0 h (inl refl) (λ S. enough s S a.n c.if-n-sizes.true))
-
-pub survey-staying-requires : goal.survey-staying-requires
-survey-staying-requires c =
-    (fits _ _ (said-yes c.right_shape.ensures c.if-not-right_shape.false)).entries
+    unchanged s RoomOnly 0 h (inl refl) (λ S. enough s S a.n c.if-n-sizes.true)
 
 pub overflow_sub-room : goal.overflow_sub-room
 overflow_sub-room c =
@@ -44,27 +36,15 @@ returns-then-room-staying c =
     let s = store_of a.array.now a.entries.now a.index.now a.sizes in
     let h : Shaped s = said-yes c.right_shape.ensures c.if-not-right_shape.false in
     let more = c.if-n-sizes.false in
-    (omega arith, unchanged s RoomOnly no_room h (inr refl) (λ S. too_many s S a.n more (omega (arith, c.if-room-staying.true, c.survey-staying.ensures.number))))
-
-pub rehash-kept-requires : goal.rehash-kept-requires
-rehash-kept-requires c =
-    let shape = said-yes c.right_shape.ensures c.if-not-right_shape.false in
-    (shape, omega arith, shape.size_fits, c.survey-staying.ensures.inside, c.survey-staying.ensures.before)
-
-pub overflow_add-kept : goal.overflow_add-kept
-overflow_add-kept c =
-    let shape = said-yes c.right_shape.ensures c.if-not-right_shape.false in
-    omega (arith, c.rehash-kept.ensures.count, c.survey-staying.ensures.number, c.if-room-staying.false, shape.lengths.entries_most)
+    unchanged s RoomOnly no_room h (inr refl) (λ S. too_many s S a.n more (omega (arith, c.if-room-staying.true, c.survey-staying.ensures.number)))
 
 pub returns : goal.returns
 returns c =
     let a = c.args in
     let s = store_of a.array.now a.entries.now a.index.now a.sizes in
     let h : Shaped s = said-yes c.right_shape.ensures c.if-not-right_shape.false in
-    let more = c.if-n-sizes.false in (
-      tt,
-      changed s _ RoomOnly _ h (inl refl) (λ S. reserve-kept _ _ a.n (sound-formed s S))
-          (record { refused = λ r. absurd (r refl); sound = λ S. dropped s S a.n more (omega (arith, c.if-room-staying.false, c.survey-staying.ensures.number)) _ c.rehash-kept.result (c.rehash-kept.ensures.sound S) _ c.larger.ensures })
-          (λ i. omega (arith, c.type_inv.array i))
-          (λ i. omega (arith, c.type_inv.entries i)),
-    )
+    let more = c.if-n-sizes.false in
+    changed s _ RoomOnly _ h (inl refl) (λ S. reserve-kept _ _ a.n (sound-formed s S))
+    (record { refused = λ r. absurd (r refl); sound = λ S. dropped s S a.n more (omega (arith, c.if-room-staying.false, c.survey-staying.ensures.number)) _ c.rehash-kept.result (c.rehash-kept.ensures.sound S) _ c.max.ensures })
+    (λ i. omega (arith, c.type_inv.array i))
+    (λ i. omega (arith, c.type_inv.entries i))

@@ -1,5 +1,5 @@
 -- `writes::set_absent` meets its contract: nothing, one entry more, or growth. Assumes nothing.
-use mathlib.Core.Path.{sym, ◌∙◌}
+use mathlib.Core.Path.{refl, sym, ◌∙◌}
 use Rattle.store.specs.Store.{slices, store_of}
 use Rattle.writes.proofs.Keyed.{nothing-done, append-done, grow-done}
 use Rattle.writes.proofs.set_absent.Goals as goal
@@ -8,7 +8,7 @@ pub returns-then-is_nil : goal.returns-then-is_nil
 returns-then-is_nil c =
     let a = c.args in
     nothing-done (store_of a.array.now a.entries.now a.index.now a.sizes) a.key a.v a.place
-    (sym c.is_nil.ensures ∙ c.if-is_nil.true) c.nil.result c.nil.ensures
+    (sym c.is_nil.ensures ∙ c.if-is_nil.true) _ refl
 
 pub returns-then-sizes : goal.returns-then-sizes
 returns-then-sizes c =
@@ -16,7 +16,7 @@ returns-then-sizes c =
     let after = c.append.new in
     let p = c.append.ensures in
     append-done (store_of a.array.now a.entries.now a.index.now a.sizes) a.key a.v a.place
-    (sym c.is_nil.ensures ∙ c.if-is_nil.false) c.if-sizes.true c.nil-then-sizes.result c.nil-then-sizes.ensures
+    (sym c.is_nil.ensures ∙ c.if-is_nil.false) c.if-sizes.true _ refl
     after.entries after.index c.append.result p.entries p.index p.sizes
 
 pub returns : goal.returns

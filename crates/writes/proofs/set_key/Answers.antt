@@ -1,8 +1,6 @@
 -- `writes::set_key` meets its contract: into the array, over an entry, or a key that has no place. Assumes nothing.
-use mathlib.Core.Path.{sym, subst, ◌∙◌}
+use mathlib.Core.Path.{sym, ◌∙◌}
 use native.Mathlib.Omega.{arith}
-use lib.ListN.{length}
-use Rattle.index.specs.Search.{Stands}
 use Rattle.model.proofs.Array.{place-within}
 use Rattle.store.specs.Store.{slices, store_of}
 use Rattle.writes.proofs.Keyed.{array-done, entry_done, absent-done, full-done}
@@ -20,26 +18,6 @@ returns-then-is_within c =
     array-done (store_of a.array.now a.entries.now a.index.now a.sizes) a.key a.v
     (sym c.is_within.ensures ∙ c.if-is_within.true) c.place_of.result c.place_of.ensures
     c.put_value.result c.put_value.ensures.previous c.put_value.new.words c.put_value.ensures.words
-
-pub overflow_mul-i : goal.overflow_mul-i
-overflow_mul-i c =
-    let a = c.args in
-    omega (arith, subst (Stands a.sizes.count (length a.index.now)) c.in-At.is c.search.ensures.safe, c.requires.lengths.entries_most)
-
-pub overflow_add-i : goal.overflow_add-i
-overflow_add-i c =
-    let a = c.args in
-    omega (arith, subst (Stands a.sizes.count (length a.index.now)) c.in-At.is c.search.ensures.safe, c.requires.lengths.entries_most)
-
-pub put_value-requires-in-At : goal.put_value-requires-in-At
-put_value-requires-in-At c =
-    let a = c.args in
-    omega (arith, subst (Stands a.sizes.count (length a.index.now)) c.in-At.is c.search.ensures.safe)
-
-pub set_absent-requires : goal.set_absent-requires
-set_absent-requires c =
-    let a = c.args in
-    (c.requires, subst (Stands a.sizes.count (length a.index.now)) c.in-Absent.is c.search.ensures.safe)
 
 pub returns-in-At : goal.returns-in-At
 returns-in-At c =

@@ -1,6 +1,0 @@
--- `calls::digest_words`: the digest stays below 2^31. Assumes nothing.
-use Rattle.std.proofs.Common.{◌^◌, ◌<◌}
-use Rattle.calls.proofs.digest_words.Given as goal
-
-abbrev pub invariant-loop-i : goal.invariant-loop-i
-invariant-loop-i l = l.d < 2 ^ 31
