@@ -13,7 +13,7 @@ from mutants import promise_rules
 from mutants.listing import agree, change_of, listed, table
 from mutants.prover import ERROR, FACT, SHAPE, SURVIVED, UNDECIDED, Copy, rt
 from mutants.promise_rules import UNTYPED
-from mutants.rules import Mutant
+from mutants.body import Mutant
 from mutants.term_rules import Changes
 from mutants.terms import Definitions, with_names
 

@@ -17,7 +17,7 @@ from mutants import definitions
 from mutants.listing import agree, change_of, listed, table
 from mutants.prover import CLASSES, FACT, SURVIVED, UNDECIDED, Copy
 from mutants.rules import mutants
-from mutants.source import Names
+from mutants.source import Names, is_constant
 
 CRATES = ("growth", "index", "reads", "rehash", "writes", "store", "lent", "key", "value")
 USERS = ("store", "reads", "writes")  # leaves first; all other crates with a constant in use are below these
@@ -32,7 +32,7 @@ def batches(found):
     """The mutants in batches with at most one a function; a constant, which many functions may use, is alone."""
     queues = {}
     for m in found:
-        if m.function.isupper():
+        if is_constant(m.function):
             yield [m]
         else:
             queues.setdefault((m.file, m.function), []).append(m)

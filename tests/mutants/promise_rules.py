@@ -4,7 +4,7 @@ name or field of theirs at a time becomes another."""
 import re
 
 from mutants.prover import ERROR, SECONDS, SURVIVED, rt, verdict
-from mutants.rules import Mutant
+from mutants.body import Mutant
 from mutants.terms import with_names
 
 # the modules that declare promises; in those that compute, these alone

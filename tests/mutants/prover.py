@@ -9,7 +9,7 @@ import tempfile
 from contextlib import contextmanager
 from pathlib import Path
 
-from mutants.source import FN
+from mutants.source import functions, is_constant, path_of
 
 SECONDS = 300  # for one mutant; no verdict after that
 FACT, SHAPE, REJECTED, SURVIVED, UNDECIDED = "at a fact", "by shape only", "not compiled", "survived", "no verdict"
@@ -19,13 +19,18 @@ ERROR = re.compile(r"^\S*?([\w/.-]+\.(?:rt|antt)):(\d+):\d+: error(?:\[[\w-]+\])
 # an error that only follows from another one
 FOLLOWS = re.compile(r"was not admitted")
 # the answers do not fit what the function now consists of: other goals, other locals of a loop, another number of ways through
-MISFIT = re.compile(r"that can be named from here|has no field|is not in scope|needs a function \(or path\) type to bind")
+MISFIT = re.compile(
+    r"that can be named from here|\.Goals` has no|is already declared in this block|has no field|is not in scope"
+    r"|needs a function \(or path\) type to bind"
+)
 # a goal that has no answer, for which the tactics find no proof; the second form says that it is false of some values
 UNPROVED = re.compile(r"^note: src/(\S+):(\d+):\d+: (it is not proved that .*)", re.M)
 FALSE = re.compile(r"allow values at which this goal is false")
-UNCOVERED = re.compile(r"^fn \w+::(\w+): not proved; (the borrow checker does not cover .*)", re.M)
+UNCOVERED = re.compile(r"^fn \w+::([\w:]+): not proved; (the borrow checker does not cover .*)", re.M)
 # an answer to a goal that has another name now, since goals are named by the tests on the way: the likeliest name is told first
 RENAMED = re.compile(r"^help: `Goals` has no `([^`]+)`; rattle asks for `([^`]+)`", re.M)
+# an answer that cites a call by the method's name, where another method is called now
+MISSING = re.compile(r"has no field `([a-z_]+)(?:-[\w-]+)?`")
 TESTS = re.compile(r"(?:then|else)-((?:(?!-(?:then|else)-)[^+])+)")
 
 
@@ -38,12 +43,18 @@ def verdict(status, log):
     return judged(rejected, proofs, [said for _, _, said in UNPROVED.findall(log)])
 
 
-def verdict_of(function, owner, log):
+def verdict_of(m, owner, log):
     """The same of one changed function among others, by the errors in its own proof and its goals: no other proof looks into its body. `owner` tells the
     function at a line of a file."""
-    proofs = [said for file, _, said in ERROR.findall(log) if f"proofs/{function}/" in file]
-    goals = [said for file, line, said in UNPROVED.findall(log) if owner(file, int(line)) == function]
-    return judged([said for name, said in UNCOVERED.findall(log) if name == function], proofs, goals)
+    path = path_of(m.file, m.function)
+    proofs = [said for file, _, said in ERROR.findall(log) if f"proofs/{folder(path)}/" in file]
+    goals = [said for file, line, said in UNPROVED.findall(log) if file == m.file and owner(file, int(line)) == m.function]
+    return judged([said for name, said in UNCOVERED.findall(log) if name == path], proofs, goals)
+
+
+def folder(path):
+    """Where the proof of a function lies under proofs/, by its path in what the check says."""
+    return path.replace("::", "/")
 
 
 def judged(rejected, proofs, goals):
@@ -81,6 +92,13 @@ def turned(text, pairs):
     return text
 
 
+def called(text, names, new):
+    """Answers with these methods' calls turned to the one that is called now."""
+    for old in names:
+        text = re.sub(rf"(?<=\.){old}(?!\w)", new, text)
+    return text
+
+
 class Copy:
     """The copy. After each mutant its source is as it was; what a check keeps beside it may stay, since it goes by the text that was checked."""
 
@@ -108,7 +126,7 @@ class Copy:
             if len(batch) == 1:
                 return {batch[0]: self.alone(crate, batch[0], status, log, users)}
             owner = self.owner(crate)
-            found = {m: (*verdict_of(m.function, owner, log), log) for m in batch}
+            found = {m: (*verdict_of(m, owner, log), log) for m in batch}
         found.update({m: (REJECTED, said, log) for m, said in self.rejected(crate, batch, log)})
         left = [m for m in batch if found[m][0] in (UNDECIDED, SHAPE)]
         together = len(left) < len(batch) and not re.search(r"^logic=", log, re.M)  # the front end saw no further than what it rejected
@@ -118,12 +136,12 @@ class Copy:
 
     def alone(self, crate, m, status, log, users):
         """What the prover says of one mutant, with its answers under the names that are asked for now where they have others."""
-        pairs = RENAMED.findall(log)
-        if pairs and verdict(status, log)[0] == SHAPE:
-            for path in (self.crate(crate) / "proofs" / m.function).glob("*.antt"):
-                path.write_text(turned(path.read_text(), pairs))
+        pairs, names = RENAMED.findall(log), set(MISSING.findall(log)) if m.rule == "method" else set()
+        if (pairs or names) and verdict(status, log)[0] == SHAPE:
+            for path in (self.crate(crate) / "proofs" / folder(path_of(m.file, m.function))).glob("*.antt"):
+                path.write_text(called(turned(path.read_text(), pairs), names, m.new))
             status, log = rt(self.crate(crate), SECONDS)
-        if verdict(status, log)[0] == SURVIVED and m.function.isupper():
+        if verdict(status, log)[0] == SURVIVED and is_constant(m.function):
             status, log = self.used(users)
         return (*verdict(status, log), log)
 
@@ -132,9 +150,9 @@ class Copy:
 
         def told(file, line):
             text, name = (self.crate(crate) / "src" / file).read_text(), None
-            for m in FN.finditer(text):
-                if text.count("\n", 0, m.start()) < line:
-                    name = m.group(1)
+            for f in functions(text):
+                if text.count("\n", 0, f.start) < line:
+                    name = f.name
             return name
 
         return told

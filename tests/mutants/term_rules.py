@@ -3,7 +3,7 @@ the one meant differs from it by such a part."""
 
 from itertools import combinations
 
-from mutants.rules import Mutant
+from mutants.body import Mutant
 
 OPERATORS = {"+": ["-"], "-": ["+"], "*": ["+"], "/": ["*"], "^": ["*"], "&&": ["||"], "||": ["&&"]}
 FUNCTIONS = {"ltb": ["leb"], "leb": ["ltb"], "eqb": ["leb"], "max": ["min"], "min": ["max"], "pred": ["suc"], "suc": ["pred"]}

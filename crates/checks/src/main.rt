@@ -69,7 +69,9 @@ fn are_unchanged(array: &[u64], entries: &[u64], index: &[Word]) -> bool
 
 fn show_made(rt: &impl Print, view: &View) -> io::Result<()> {
     let words = if are_zero(view) { "zero" } else { "not zero" };
-    print!(rt; "fresh 0 {words} {} ", view.sizes)?;
+    print!(rt; "fresh 0 {words}")?;
+    console::show_sizes(rt, view.sizes)?;
+    print!(rt; " ")?;
     console::show_check(rt, view)
 }
 
@@ -86,7 +88,8 @@ fn show_refused(
     } else {
         "changed"
     };
-    print!(rt; "fresh {} {words} ", u8::from(refusal))?;
+    print!(rt; "fresh {}", u8::from(refusal))?;
+    print!(rt; " {words} ")?;
     array.fill(0);
     entries.fill(0);
     index.fill(0);
@@ -220,18 +223,26 @@ fn check(rt: &impl Print, stored: Stored) -> io::Result<()>
     )
 }
 
+// The lengths are tested before there is room, which takes longer to make than all the rest.
 fn fresh(rt: &impl Print, array: usize, entries: usize, index: usize) -> io::Result<()> {
+    if console::ROOM < array || console::ROOM < entries || console::ROOM < index {
+        return println!(rt; "fresh too long");
+    }
+    fresh_in_room(rt, array, entries, index)
+}
+
+fn fresh_in_room(rt: &impl Print, array: usize, entries: usize, index: usize) -> io::Result<()>
+    requires { (array ≤ word_room) × (entries ≤ word_room) × (index ≤ word_room) }
+{
     let mut array_words: [u64; console::ROOM] = lent::room();
     let mut entry_words: [u64; console::ROOM] = lent::room();
     let mut index_words: [Word; console::ROOM] = lent::room();
-    let (Some(array), Some(entries), Some(index)) = (
-        array_words.get_mut(..array),
-        entry_words.get_mut(..entries),
-        index_words.get_mut(..index),
-    ) else {
-        return println!(rt; "fresh too long");
-    };
-    show_fresh(rt, array, entries, index)
+    show_fresh(
+        rt,
+        &mut array_words[..array],
+        &mut entry_words[..entries],
+        &mut index_words[..index],
+    )
 }
 
 fn perform(rt: &impl Print, task: Task) -> io::Result<()>

@@ -8,7 +8,7 @@ ghost use Rattle.console.specs.Input.{byte_room, word_at, Holds};
 
 use std::io;
 use std::io::Read;
-use store::View;
+use store::{Record, View};
 
 // Room for bytes of input; and for words of a slice, past the limits of lent room and past what the input can hold. The same numbers
 // stand in specs/Input.antt.
@@ -72,6 +72,18 @@ pub fn cut(rt: &impl Print, words: &[u64]) -> io::Result<usize>
 {
     println!(rt; "cut")?;
     Ok(words.len())
+}
+
+// Each number of a line is a write of its own: where a write fails, what came before it has gone out.
+pub fn show_number(rt: &impl Print, n: u64) -> io::Result<()> {
+    print!(rt; " {n}")
+}
+
+// A, M and E.
+pub fn show_sizes(rt: &impl Print, sizes: Record) -> io::Result<()> {
+    show_number(rt, sizes.size as u64)?;
+    show_number(rt, sizes.allowance as u64)?;
+    show_number(rt, sizes.count as u64)
 }
 
 // What the check says, which ends the line.

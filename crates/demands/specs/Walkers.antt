@@ -19,7 +19,7 @@ use Rattle.reads.specs.declared.Next.TheVariants.{Found}
 
 -- a walker that is not at its end, with this key
 abbrev pub Keeps : Walker → Words → Type 0
-Keeps w key = (k : Value) × (w.key ≡ Some k) × (encoded k ≡ key)
+Keeps w key = (encoded w.key ≡ key) × (w.done ≡ false)
 
 -- at a moment of a walk, of any step that the walker may take then and the walker w' after it
 pub record WalkerWalked (s₀ s : Store) (key : Words) (handed : List Entry) (Through : Words → Type 0) (w : Walker) : Type 0 where
@@ -32,4 +32,4 @@ pub record WalkerWalked (s₀ s : Store) (key : Words) (handed : List Entry) (Th
   -- after n pairs the end, n being the keys with a value at the start
   pub ends : (w' : Walker) (a : Result (Option (Value × Value)) Refusal) → length handed ≡ at_start (table_of s₀) → WalkerSteps s w (stepped w' a) → a ≡ Ok None
   -- at the end, each key with a value throughout has come, and the walker stays there
-  pub all : (w' : Walker) → WalkerSteps s w (stepped w' (Ok None)) → (w'.key ≡ None) × ((j k : Words) → canonical_key j ≡ Ok k → Through j → member (keys_of handed) k ≡ true)
+  pub all : (w' : Walker) → WalkerSteps s w (stepped w' (Ok None)) → (w'.done ≡ true) × ((j k : Words) → canonical_key j ≡ Ok k → Through j → member (keys_of handed) k ≡ true)

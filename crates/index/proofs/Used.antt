@@ -1,8 +1,5 @@
--- How many words of a list are not empty: what a store changes in the count, what a count says of the words, and the count as code makes
--- it. Assumes nothing.
-use Rattle.std.proofs.Common.{◌≡◌, ℕ, zero, suc, eqb, not, count_by, ◌+◌, ◌<◌, true, false, cond, List, [], ◌∷◌, length, get_or, set, replicate, refl, ap, suc-le-suc, zero-le, le_of_suc-le-suc, not-suc-le-zero, arith}
-use Rattle.std.proofs.lemmas.List.Recursion.{is_count_by}
-use Rattle.std.proofs.lemmas.Bool.Decides.{nat_tests}
+-- How many words of a list are not empty: what a store changes in the count, and what a count says of the words. Assumes nothing.
+use Rattle.std.proofs.Common.{◌≡◌, ℕ, zero, suc, ◌+◌, ◌<◌, true, false, List, [], ◌∷◌, length, get_or, set, replicate, refl, ap, suc-le-suc, zero-le, le_of_suc-le-suc, not-suc-le-zero, arith}
 use Rattle.value.proofs.Cases.{clash}
 use Rattle.index.specs.Index.{is_empty, used}
 
@@ -44,12 +41,3 @@ pub inside : (l : List ℕ) (k w : ℕ) → get_or l k 0 ≡ suc w → k < lengt
 inside [] k w e = absurd (omega arith)
 inside (x ∷ l) zero w e = suc-le-suc zero-le
 inside (x ∷ l) (suc k) w e = suc-le-suc (inside l k w e)
-
--- as code counts them
-pub used_count : (l : List ℕ) → used l ≡ count_by (λ w. not (eqb w 0)) l
-used_count =
-    is_count_by used (λ w. not (eqb w 0)) refl step
-  where
-    step : (w : ℕ) (l : List ℕ) → used (w ∷ l) ≡ cond (not (eqb w 0)) (1 + used l) (used l)
-    step zero l = refl
-    step (suc w) l = grind (arith, nat_tests)

@@ -1,5 +1,5 @@
 -- What a walker's step promises (01, 'Calls', walker): the answer and the walker after it. Assumes nothing.
-use Rattle.std.specs.Prelude.{◌≡◌, Option, Some, None, Result, Ok, Err}
+use Rattle.std.specs.Prelude.{◌≡◌, Bool, true, false, Option, Some, None, Result, Ok, Err}
 use Rattle.value.specs.declared.Value.{Value}
 use Rattle.value.specs.declared.Value.TheVariants.{Nil}
 use Rattle.value.specs.declared.refusal.Refusal.{Refusal}
@@ -12,33 +12,32 @@ use Rattle.table.specs.Values.{NextOfValue}
 use Rattle.iter.specs.declared.Walker.{Walker}
 use Rattle.iter.specs.declared.Stepped.{Stepped}
 
--- a walker that goes on from a key, and one at its end
-abbrev pub walker : Option Value → Walker
-walker k = record { key = k }
+abbrev pub walker : Value → Bool → Walker
+walker k d = record { key = k; done = d }
 
 abbrev pub stepped : Walker → Result (Option (Value × Value)) Refusal → Stepped
 stepped w a = record { walker = w; answer = a }
 
 -- before the first pair
 abbrev pub start : Walker
-start = walker (Some Nil)
+start = walker Nil false
 
-abbrev pub ended : Stepped
-ended = stepped (walker None) (Ok None)
+abbrev pub ended : Value → Stepped
+ended k = stepped (walker k true) (Ok None)
 
 abbrev pub refused : Walker → Refusal → Stepped
 refused w e = stepped w (Err e)
 
 -- what a step comes to, by what `next` answers from the key that the walker keeps
 abbrev pub advanced : Walker → Result (Next Value) Refusal → Stepped
-advanced w (Ok (Found k v)) = stepped (walker (Some k)) (Ok (Some (k, v)))
-advanced w (Ok Last) = ended
-advanced w (Ok NotFound) = ended
+advanced w (Ok (Found k v)) = stepped (walker k false) (Ok (Some (k, v)))
+advanced w (Ok Last) = ended w.key
+advanced w (Ok NotFound) = ended w.key
 advanced w (Err e) = refused w e
 
 pub record WalkerSteps (s : Store) (w : Walker) (r : Stepped) : Type 0 where
   -- the shape comes first, at the end too, and a refusal leaves the walker as it was
   pub wrong : (Shaped s → ⊥) → r ≡ refused w WrongShape
   -- after Last or NotFound the end for ever
-  pub done : Shaped s → w.key ≡ None → r ≡ stepped w (Ok None)
-  pub goes : (k : Value) → w.key ≡ Some k → (n : Result (Next Value) Refusal) × NextOfValue s k n × (r ≡ advanced w n)
+  pub done : Shaped s → w.done ≡ true → r ≡ stepped w (Ok None)
+  pub goes : w.done ≡ false → (n : Result (Next Value) Refusal) × NextOfValue s w.key n × (r ≡ advanced w n)

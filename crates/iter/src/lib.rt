@@ -11,8 +11,9 @@ use value::{Refusal, Value};
 
 #[derive(Clone, Copy)]
 pub struct Walker {
-    // the key last handed out, from which the next step goes on; Nil before the first, and none at the end
-    pub key: Option<Value>,
+    // the key last handed out, Nil before the first; an ended walker keeps it, so that a host can go on from it
+    pub key: Value,
+    pub done: bool,
 }
 
 // A walker after its step, and what that handed out: a key and its value, or nothing at the end.
@@ -22,11 +23,12 @@ pub struct Stepped {
     pub answer: Result<Option<(Value, Value)>, Refusal>,
 }
 
-fn end() -> Stepped
-    ensures { result ≡ ended }
+// A walker at its end.
+fn end(key: Value) -> Stepped
+    ensures { result ≡ ended key }
 {
     Stepped {
-        walker: Walker { key: None },
+        walker: Walker { key, done: true },
         answer: Ok(None),
     }
 }
@@ -44,19 +46,23 @@ fn refuse(walker: Walker, refusal: Refusal) -> Stepped
 pub fn step(walker: Walker, view: &View) -> Stepped
     ensures { WalkerSteps (seen view.now) walker result }
 {
-    let Some(key) = walker.key else {
+    let key = walker.key;
+    if walker.done {
         if store::is_shaped(view) {
-            return end();
+            return end(key);
         }
         return refuse(walker, Refusal::WrongShape);
-    };
+    }
     match table::next(view, key) {
         Ok(Next::Found(k, v)) => Stepped {
-            walker: Walker { key: Some(k) },
+            walker: Walker {
+                key: k,
+                done: false,
+            },
             answer: Ok(Some((k, v))),
         },
-        Ok(Next::Last) => end(),
-        Ok(Next::NotFound) => end(),
+        Ok(Next::Last) => end(key),
+        Ok(Next::NotFound) => end(key),
         Err(refusal) => refuse(walker, refusal),
     }
 }
@@ -67,7 +73,8 @@ impl Walker {
         ensures { result ≡ start }
     {
         Self {
-            key: Some(Value::Nil),
+            key: Value::Nil,
+            done: false,
         }
     }
 

@@ -95,7 +95,10 @@ pub fn canonical_key(key: Words) -> Result<Words, Refusal>
 pub fn array_index(key: Words) -> Option<u64>
     ensures { result ≡ array_index key }
 {
-    if key.kind == 2 && 0 < key.payload && key.payload < 0x8000_0000_0000_0000 {
+    if key.kind != 2 {
+        return None;
+    }
+    if 0 < key.payload && key.payload < 0x8000_0000_0000_0000 {
         return Some(key.payload - 1);
     }
     None

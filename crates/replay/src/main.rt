@@ -3,7 +3,8 @@
 // write, and ends the run.
 #![tactic(auto)]
 
-ghost use Rattle.std.specs.Prelude.{◌<◌, ◌≤◌, length, IfSome};
+ghost use Rattle.std.specs.Prelude.{◌≡◌, ◌+◌, ◌<◌, ◌≤◌, length, IfSome, IfNone};
+ghost use Rattle.replay.specs.Numbers.{modulus};
 
 use index::Word;
 use std::env::FillError;
@@ -12,7 +13,8 @@ use std::rt::{Env, Files};
 use std::{io, str};
 
 // The most bytes of a file and of a trace's input that tests/replay makes, and room for the output of such a trace: three times the input and
-// one longest reply, since a reply has at most three times its request's bytes (session's `Waits`).
+// one longest reply, since a reply has at most three times its request's bytes (session's `Waits`). The same numbers stand in
+// specs/Numbers.antt.
 const FILE: usize = 393216;
 
 const INPUT: usize = 65536;
@@ -64,7 +66,7 @@ struct Tally {
 }
 
 fn digest_of(bytes: &[u8]) -> u64
-    ensures { result < MODULUS }
+    ensures { result < modulus }
 {
     let mut n = 1u64;
     for byte in bytes {
@@ -75,7 +77,8 @@ fn digest_of(bytes: &[u8]) -> u64
 
 // The reply at the start, and what follows it. Bytes that are no whole reply count as one of kind 0, up to the end.
 fn split_reply(bytes: &[u8]) -> Option<(Part, &[u8])>
-    ensures { IfSome result (λ r. (r.0.digest < MODULUS) × (length r.1.now < length bytes.now)) }
+    ensures part { IfSome result (λ r. (r.0.digest < modulus) × (length r.1.now < length bytes.now)) }
+    ensures none { IfNone result (length bytes.now ≡ 0) }
 {
     if bytes.is_empty() {
         return None;
@@ -133,7 +136,8 @@ fn is_answered(input: &[u8], stored: &[u8], method: Method) -> bool {
 
 // The part at the start, a 32-bit length and as many bytes or those that there are, and what follows it.
 fn split_part(file: &[u8]) -> Option<(&[u8], &[u8])>
-    ensures { IfSome result (λ p. length p.1.now < length file.now) }
+    ensures part { IfSome result (λ p. length p.0.now + length p.1.now + 4 ≡ length file.now) }
+    ensures none { IfNone result (length file.now < 4) }
 {
     let (size, rest) = file.split_first_chunk()?;
     let size = u32::from_le_bytes(*size) as usize;
