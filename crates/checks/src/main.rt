@@ -32,21 +32,20 @@ fn mark(i: usize) -> Word
     (1 + i % 65535) as Word
 }
 
+// By place, as in the tests below: with `enumerate` the compiler makes marks one by one and not four at a time, and the program took a quarter
+// more.
 fn mark_words<T: Copy + From<Word>>(words: &mut [T])
     ensures { MarkedBy T.from_gives (length words.new) words.new }
 {
-    for (i, word) in words.iter_mut().enumerate() {
-        *word = T::from(mark(i));
+    for i in 0..words.len() {
+        words[i] = T::from(mark(i));
     }
 }
 
 fn are_marked(words: &[u64]) -> bool
     ensures { Says result (Marked words.now) }
 {
-    words
-        .iter()
-        .enumerate()
-        .all(|(i, word)| *word == u64::from(mark(i)))
+    (0..words.len()).all(|i| words[i] == u64::from(mark(i)))
 }
 
 // Whether every word is 0, as in a fresh store.
@@ -62,9 +61,7 @@ fn are_zero(view: &View) -> bool
 fn are_unchanged(array: &[u64], entries: &[u64], index: &[Word]) -> bool
     ensures { Says result (Marked array.now × Marked entries.now × Marked index.now) }
 {
-    are_marked(array)
-        && are_marked(entries)
-        && index.iter().enumerate().all(|(i, word)| *word == mark(i))
+    are_marked(array) && are_marked(entries) && (0..index.len()).all(|i| index[i] == mark(i))
 }
 
 fn show_made(rt: &impl Print, view: &View) -> io::Result<()> {
